@@ -1,0 +1,5 @@
+pub mod Sums
+pub mod Distinct
+pub mod Moments
+pub mod Wider
+pub mod Tops

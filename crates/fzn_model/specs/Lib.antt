@@ -1,0 +1,6 @@
+pub mod Sets
+pub mod Meaning
+pub mod Parts
+pub mod Solutions
+pub mod Kept
+pub mod Starts

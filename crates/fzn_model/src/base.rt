@@ -1,0 +1,39 @@
+ghost use Rattle.std.specs.Prelude.{◌≡◌, ◌↔◌, IsTrue, length};
+ghost use Rattle.fzn_model.specs.Meaning.{val, bit, HoldsBase};
+ghost use Rattle.fzn_model.specs.Kept.{TermIn, BaseKept, of_call};
+
+use crate::clause::Clause;
+use crate::lin::Lin;
+use crate::member::Member;
+use crate::term::Term;
+
+/// A constraint that can be reified.
+#[derive(Debug, Drop)]
+pub enum Base {
+    Lin(Lin),
+    Clause(Clause),
+    Member(Member),
+}
+
+impl Base {
+    /// Whether the constraint holds under the assignment.
+    pub fn holds(&self, values: &[i64]) -> bool
+        requires { BaseKept of_call (length values.now) self.now }
+        ensures { IsTrue result ↔ HoldsBase self.now values.now }
+    {
+        match self {
+            Base::Lin(lin) => lin.holds(values),
+            Base::Clause(clause) => clause.holds(values),
+            Base::Member(member) => member.holds(values),
+        }
+    }
+}
+
+/// Whether the base holds exactly where the term has the value of the flag.
+pub(crate) fn reif_holds(base: &Base, truth: Term, flag: bool, values: &[i64]) -> bool
+    requires base { BaseKept of_call (length values.now) base.now }
+    requires truth { TermIn (length values.now) truth }
+    ensures { IsTrue result ↔ (HoldsBase base.now values.now ↔ (val truth values.now ≡ bit flag)) }
+{
+    base.holds(values) == (truth.value(values) == i64::from(flag))
+}

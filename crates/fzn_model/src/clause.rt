@@ -1,0 +1,32 @@
+ghost use Rattle.std.specs.Prelude.{◌≡◌, ◌↔◌, ◌⊎◌, IsTrue, length, pos};
+ghost use Rattle.fzn_model.specs.Meaning.{val, HasValue};
+ghost use Rattle.fzn_model.specs.Kept.{TermsIn, ClauseKept};
+
+use crate::list::List;
+use crate::term::Term;
+
+/// A disjunction: some positive literal is 1, or some negative one is 0.
+#[derive(Debug, Drop)]
+pub struct Clause {
+    pub pos: List<Term>,
+    pub neg: List<Term>,
+}
+
+/// Whether some term has the value.
+#[tactic(auto, unfolding(crate::specs::Meaning::HasValue))]
+pub(crate) fn has_value(terms: &[Term], value: i64, values: &[i64]) -> bool
+    requires { TermsIn (length values.now) terms.now }
+    ensures { IsTrue result ↔ HasValue terms.now value values.now }
+{
+    terms.iter().any(|term| term.value(values) == value)
+}
+
+impl Clause {
+    /// Whether the clause holds under the assignment.
+    pub fn holds(&self, values: &[i64]) -> bool
+        requires { ClauseKept (length values.now) self.now }
+        ensures { IsTrue result ↔ (HasValue self.now.pos (pos 1) values.now ⊎ HasValue self.now.neg (pos 0) values.now) }
+    {
+        has_value(self.pos.as_slice(), 1, values) || has_value(self.neg.as_slice(), 0, values)
+    }
+}

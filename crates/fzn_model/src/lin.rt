@@ -1,0 +1,67 @@
+ghost use Rattle.std.specs.Prelude.{◌≡◌, ◌↔◌, ◌*◌, ◌≤◌, ◌^◌, ◌*ℤ◌, IsTrue, length, unsigned_abs};
+ghost use Rattle.fzn_model.specs.Meaning.{val, lin_sum, Stands};
+ghost use Rattle.fzn_model.specs.Kept.{IsValue, TermIn, SumKept, LinKept, of_call};
+
+use crate::list::List;
+use crate::term::Term;
+
+/// How a sum stands to a number: at most it, equal to it, or different from it.
+#[derive(Clone, Copy, Debug, PartialEq, Eq)]
+pub enum Rel {
+    Le,
+    Eq,
+    Ne,
+}
+
+/// A linear relation: the sum of coefficient times term, against `r`.
+#[derive(Debug, Drop)]
+pub struct Lin {
+    pub rel: Rel,
+    pub terms: List<(i64, Term)>,
+    pub r: i128,
+}
+
+impl Rel {
+    fn stands(self, a: i128, b: i128) -> bool
+        ensures { IsTrue result ↔ Stands self a b }
+    {
+        match self {
+            Rel::Le => a <= b,
+            Rel::Eq => a == b,
+            Rel::Ne => a != b,
+        }
+    }
+}
+
+/// Coefficient times value.
+fn scaled(part: &(i64, Term), values: &[i64]) -> i128
+    requires factor { IsValue part.now.0 }
+    requires term { TermIn (length values.now) part.now.1 }
+    ensures value { result ≡ part.now.0 *ℤ val part.now.1 values.now }
+    ensures small { unsigned_abs result ≤ 1000000000 * 2 ^ 63 }
+{
+    i128::from(part.0) * i128::from(part.1.value(values))
+}
+
+/// The sum of coefficient times value.
+fn sum_of(terms: &[(i64, Term)], values: &[i64]) -> i128
+    requires { SumKept (length values.now) terms.now }
+    ensures { result ≡ lin_sum terms.now values.now }
+{
+    let mut sum: i128 = 0;
+    for part in terms {
+        sum += scaled(part, values);
+    }
+    sum
+}
+
+impl Lin {
+    /// Whether the relation holds under the assignment.
+    pub fn holds(&self, values: &[i64]) -> bool
+        requires { LinKept of_call (length values.now) self.now }
+        ensures { IsTrue result ↔ Stands self.now.rel (lin_sum self.now.terms values.now) self.now.r }
+    {
+        self.rel
+            .stands(sum_of(self.terms.as_slice(), values), self.r)
+    }
+}
