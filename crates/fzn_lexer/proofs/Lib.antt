@@ -1,0 +1,10 @@
+pub mod Fronts
+pub mod LongestNumber
+pub mod LongestText
+pub mod LongestReal
+pub mod LongestToken
+pub mod Gap
+pub mod Whole
+pub mod Law
+pub mod Closing
+pub mod PlacedLaw
