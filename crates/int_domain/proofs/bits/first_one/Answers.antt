@@ -1,0 +1,8 @@
+use Rattle.std.proofs.Common.{arith}
+use Rattle.int_domain.proofs.Words.{part_place}
+use Rattle.int_domain.proofs.bits.first_one.Goals as goal
+
+pub returns-then-word-ne0-clause-bounds : goal.returns-then-word-ne0-clause-bounds
+returns-then-word-ne0-clause-bounds c =
+    let r = part_place c.part-word.result c.loop-index.index c.lowest_one.result c.args.from _ c.lowest_one.ensures.within c.lowest_one.ensures.one c.part-word.ensures.below c.part-word.ensures.above in
+    (r.0, omega (arith, r.1))

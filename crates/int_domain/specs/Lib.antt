@@ -1,0 +1,4 @@
+pub mod Values
+pub mod Narrowing
+pub mod Bits
+pub mod Kept
