@@ -3,4 +3,5 @@ pub mod Meaning
 pub mod Parts
 pub mod Solutions
 pub mod Kept
+pub mod Boxes
 pub mod Starts

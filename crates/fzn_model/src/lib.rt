@@ -31,6 +31,9 @@ mod lin;
 mod member;
 mod table;
 
+// What a store of domains shows of itself.
+mod box_view;
+
 // A model, its solutions and their cost.
 mod goal;
 mod model;
@@ -41,6 +44,8 @@ pub use base::Base;
 pub use clause::Clause;
 pub use con::Con;
 pub use cumulative::{CumTask, Used};
+pub use box_view::BoxView;
+
 pub use goal::Goal;
 pub use lin::{Lin, Rel};
 pub use list::List;
