@@ -1,0 +1,5 @@
+pub mod Form
+pub mod Reading
+pub mod Views
+pub mod Covering
+pub mod Headline

@@ -1,0 +1,63 @@
+//! The program: a FlatZinc file from standard input, its answer on standard output.
+//!
+//! What it is for: [`running::run`] is the one call that the program makes, and the place where all that is promised to a
+//! user stands. So far it reads one small form of file (`specs/Form.antt`): declarations `var LOW..HIGH`, constraints
+//! `int_lin_le`, and `solve minimize`; and it solves by trying each assignment.
+//!
+//! What it promises: a run that ends with status 0 has written exactly the text of a right answer for the model of its
+//! input, and each other status has its cause. `specs/Headline.antt` has the words of these promises.
+//!
+//! What it stands on: cs_base, fzn_model, incumbent_board, solution_out. That `main` hands the real words, input and
+//! outputs to `run` is trusted.
+#![tactic(auto)]
+
+// From bytes to a model.
+mod building;
+mod fault;
+mod file;
+mod pieces;
+mod values;
+
+// From a model to an answer.
+mod search;
+
+// The whole run.
+mod ending;
+mod running;
+#[cfg(test)]
+mod tests;
+
+use cs_base::{StdSink, StdSource, Words};
+use std::process::ExitCode;
+use std::{env, io};
+
+/// The program's words, or the status that it ends with where they can't be had.
+fn words_of(rt: &HostRuntime) -> Result<Words, u8> {
+    let all = match env::args(rt) {
+        Ok(all) => all,
+        Err(error) => return Err(if error.kind() == io::ErrorKind::OutOfMemory {
+            4
+        } else {
+            9
+        }),
+    };
+    let mut words = Vec::new(rt.alloc());
+    for word in all.skip(1) {
+        if words.push(word).is_err() {
+            return Err(4);
+        }
+    }
+    Ok(Words::new(words))
+}
+
+fn main(rt: HostRuntime) -> ExitCode {
+    let words = match words_of(&rt) {
+        Ok(words) => words,
+        Err(code) => return ExitCode::from(code),
+    };
+    let mut source = StdSource::new(&rt);
+    let mut out = StdSink::new(io::writer(&rt));
+    let mut err = StdSink::new(rt.stderr());
+    let status = running::run(&rt, rt.alloc(), &words, &mut source, &mut out, &mut err);
+    ExitCode::from(status.code)
+}
