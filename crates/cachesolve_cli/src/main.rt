@@ -27,37 +27,53 @@ mod running;
 #[cfg(test)]
 mod tests;
 
-use cs_base::{StdSink, StdSource, Words};
+use cs_base::{StdSink, StdSource, Words, write_whole};
 use std::process::ExitCode;
 use std::{env, io};
 
-/// The program's words, or the status that it ends with where they can't be had.
-fn words_of(rt: &HostRuntime) -> Result<Words, u8> {
+/// Why the program's words can't be had from the system: status 4 for want of memory, 9 for every other cause.
+#[derive(Clone, Copy, Debug, PartialEq, Eq)]
+enum WordsFault {
+    NoMemory,
+    NotText,
+}
+
+/// The program's words without its name.
+fn words_of(rt: &HostRuntime) -> Result<Words, WordsFault> {
     let all = match env::args(rt) {
         Ok(all) => all,
-        Err(error) => return Err(if error.kind() == io::ErrorKind::OutOfMemory {
-            4
-        } else {
-            9
-        }),
+        Err(error) => {
+            return Err(if error.kind() == io::ErrorKind::OutOfMemory {
+                WordsFault::NoMemory
+            } else {
+                WordsFault::NotText
+            });
+        }
     };
     let mut words = Vec::new(rt.alloc());
     for word in all.skip(1) {
         if words.push(word).is_err() {
-            return Err(4);
+            return Err(WordsFault::NoMemory);
         }
     }
     Ok(Words::new(words))
 }
 
 fn main(rt: HostRuntime) -> ExitCode {
+    let mut err = StdSink::new(rt.stderr());
     let words = match words_of(&rt) {
         Ok(words) => words,
-        Err(code) => return ExitCode::from(code),
+        Err(WordsFault::NoMemory) => {
+            let _ = write_whole(&mut err, b"cachesolve: out of memory\n");
+            return ExitCode::from(4);
+        }
+        Err(WordsFault::NotText) => {
+            let _ = write_whole(&mut err, b"cachesolve: the words are no text\n");
+            return ExitCode::from(9);
+        }
     };
     let mut source = StdSource::new(&rt);
     let mut out = StdSink::new(io::writer(&rt));
-    let mut err = StdSink::new(rt.stderr());
     let status = running::run(&rt, rt.alloc(), &words, &mut source, &mut out, &mut err);
     ExitCode::from(status.code)
 }
