@@ -1,5 +1,5 @@
--- The least and the greatest number of a set.
-use Rattle.std.proofs.Common.{◌≡◌, ℕ, suc, zero, ◌+◌, ◌-◌, ◌<◌, ◌≤◌, List, [], ◌∷◌, length, get_or, refl, ap, arith, ◌∙◌, sym, subst, ℤ, pos, negsuc, neg_ℤ, ◌+ℤ◌, ◌-ℤ◌, ◌≤ℤ◌, ◌<ℤ◌}
+-- The least and the greatest number of a set, and the greatest cost of a goal.
+use Rattle.std.proofs.Common.{◌≡◌, ℕ, suc, zero, ◌-◌, ◌<◌, ◌≤◌, List, [], ◌∷◌, length, get_or, refl, arith, subst, ℤ, pos, negsuc, neg_ℤ, ◌+ℤ◌, ◌-ℤ◌, ◌≤ℤ◌, ◌<ℤ◌}
 use Rattle.std.proofs.lemmas.Int.{ints}
 use Rattle.std.proofs.lemmas.List.{get_or_default}
 use Rattle.fzn_model.specs.declared.term.Term.{Term}
@@ -7,6 +7,7 @@ use Rattle.fzn_model.specs.declared.goal.Goal.TheVariants as goal
 use Rattle.fzn_model.specs.Solutions.{IsTop, Takes}
 use Rattle.fzn_model.specs.Sets.{IsIn, IsWithin, AreAbove, AreRuns, low_of, high_of}
 
+-- stands for the run of a place that a list doesn't have
 abbrev pub none : ℤ × ℤ
 none = (pos 0, pos 0)
 
@@ -24,25 +25,29 @@ ordered before (r ∷ rs) zero (suc k) d e a le h = let p = above_run r.1 rs k e
 ordered before (r ∷ rs) (suc j) zero d e a le h = absurd (omega arith)
 ordered before (r ∷ rs) (suc j) (suc k) d e a le h = ordered r.1 rs j k d e a.2 (omega arith) (omega arith)
 
--- rising runs are above the number two below the first
+-- the runs of a set are above a number that leaves a gap below the first
 above_first : (r : ℤ × ℤ) (rs : List (ℤ × ℤ)) → AreRuns (r ∷ rs) → (before : ℤ) → (before +ℤ pos 1) <ℤ r.0 → AreAbove before (r ∷ rs)
 above_first r rs a before h = (h, a.0, a.1)
 
-below : (z : ℤ) → (b : ℤ) × ((b +ℤ pos 1) <ℤ z)
-below z = (z +ℤ negsuc 1, omega (arith, ints))
+-- a number that leaves a gap below another
+number_below : (z : ℤ) → (b : ℤ) × ((b +ℤ pos 1) <ℤ z)
+number_below z = (z +ℤ negsuc 1, omega (arith, ints))
 
-starts : (runs : List (ℤ × ℤ)) → AreRuns runs → 0 < length runs → (before : ℤ) × AreAbove before runs
-starts [] a h = absurd (omega arith)
-starts (r ∷ rs) a h = let b = below r.0 in (b.0, above_first r rs a b.0 b.1)
+-- the runs of a set that isn't empty are above some number
+runs_above : (runs : List (ℤ × ℤ)) → AreRuns runs → 0 < length runs → (before : ℤ) × AreAbove before runs
+runs_above [] a h = absurd (omega arith)
+runs_above (r ∷ rs) a h = let b = number_below r.0 in (b.0, above_first r rs a b.0 b.1)
 
+-- no number of a set is above the greatest
 pub greatest : (set : List (ℤ × ℤ)) (z : ℤ) → AreRuns set → IsIn set z → z ≤ℤ high_of set
 unfolding IsIn IsWithin
 greatest set z a (k, x, h, is, w) =
-    let (b, above) = starts set a (omega arith) in
+    let (b, above) = runs_above set a (omega arith) in
     let p = ordered b set k (length set - 1) x none above (omega arith) (omega arith) in
     let q : z ≤ℤ (get_or set k x).1 = rw is w.1 in
     omega (arith, ints, p, q)
 
+-- no number of a set is below the least
 pub least : (set : List (ℤ × ℤ)) (z : ℤ) → AreRuns set → IsIn set z → low_of set ≤ℤ z
 unfolding IsIn IsWithin
 least [] z a (k, x, h, is, w) = absurd (omega arith)
@@ -53,25 +58,28 @@ least (r ∷ rs) z a (suc k, x, h, is, w) =
     let s : r.0 ≤ℤ r.1 = a.0 in
     omega (arith, ints, p.0, q, s)
 
+-- the greatest number is in the set
 pub high_in : (set : List (ℤ × ℤ)) → AreRuns set → 0 < length set → IsIn set (high_of set)
 unfolding IsIn IsWithin
 high_in set a h =
-    let (b, above) = starts set a h in
+    let (b, above) = runs_above set a h in
     let k : length set - 1 < length set = omega arith in
     let x : ℤ × ℤ = get_or set (length set - 1) none in
     (length set - 1, x, k, get_or_default set (length set - 1) x none k, ((above_run b set (length set - 1) none above k).1, omega (arith, ints)))
 
+-- the least number is in the set
 pub low_in : (set : List (ℤ × ℤ)) → AreRuns set → 0 < length set → IsIn set (low_of set)
 unfolding IsIn IsWithin
 low_in [] a h = absurd (omega arith)
 low_in (r ∷ rs) a h = (0, r, omega arith, refl, (omega (arith, ints), a.0))
 
+-- the sign turned twice
 neg_neg : (z : ℤ) → z ≡ neg_ℤ (neg_ℤ z)
 neg_neg (pos zero) = refl
 neg_neg (pos (suc n)) = refl
 neg_neg (negsuc n) = refl
 
--- the top of each kind of goal
+-- one more than the greatest cost of each kind of goal
 pub top_satisfy : (ds : List (List (ℤ × ℤ))) → IsTop ds goal.Satisfy (pos 1)
 top_satisfy ds = record { reached = (pos 0, refl, refl); above = λ c h. omega (arith, ints, h) }
 

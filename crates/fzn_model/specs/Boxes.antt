@@ -1,26 +1,28 @@
 -- Boxes: a set of values for each variable, as the rising list of its values.
-use Rattle.std.specs.Prelude.{◌≡◌, ℕ, ◌+◌, ◌-◌, ◌<◌, ◌≤◌, List, [], ◌∷◌, length, slice_index_or, ℤ, pos, ◌+ℤ◌, ◌-ℤ◌, ◌<ℤ◌, ◌≤ℤ◌, All, Contains, ⊤}
+use Rattle.std.specs.Prelude.{◌≡◌, ◌≢◌, ℕ, ◌<◌, List, [], ◌∷◌, length, slice_index_or, ℤ, pos, ◌-ℤ◌, ◌<ℤ◌, ◌≤ℤ◌, All, AllPairs, Contains}
 use Rattle.fzn_model.specs.Kept.{IsValue}
 
--- the numbers rise, each below the next
-abbrev pub Rises : List ℤ → Type 0
-Rises [] = ⊤
-Rises (x ∷ []) = ⊤
-Rises (x ∷ y ∷ zs) = (x <ℤ y) × Rises (y ∷ zs)
+-- the last of a list, or else the number before it
+abbrev pub last_after : ℤ → List ℤ → ℤ
+last_after before [] = before
+last_after before (x ∷ xs) = last_after x xs
 
--- the first and the last value
-abbrev pub low_value : List ℤ → ℤ
-low_value values = slice_index_or values 0 (pos 0)
+-- the first value, which is the least where the values rise
+unfoldable pub low_value : List ℤ → ℤ
+low_value [] = pos 0
+low_value (x ∷ xs) = x
 
-abbrev pub high_value : List ℤ → ℤ
-high_value values = slice_index_or values (length values - 1) (pos 0)
+-- the last value, which is the greatest where the values rise
+unfoldable pub high_value : List ℤ → ℤ
+high_value values = last_after (pos 0) values
 
--- A set of values of a box: not empty, rising, within the values; one whose hull has more than 1,024 numbers has no gap.
+-- A set of values of a box: some, rising, within the values; where its hull, all numbers from the first value to the
+-- last, has more than 1,024 numbers, all of the hull.
 pub record IsDomain (values : List ℤ) : Type 0 where
-  pub some : 0 < length values
-  pub rising : Rises values
+  pub some : values ≢ []
+  pub rising : AllPairs (λ x y. x <ℤ y) values
   pub within : All IsValue values
-  pub whole : pos 1024 <ℤ ((high_value values -ℤ low_value values) +ℤ pos 1) → pos (length values) ≡ (high_value values -ℤ low_value values) +ℤ pos 1
+  pub whole : pos 1024 ≤ℤ (high_value values -ℤ low_value values) → (z : ℤ) → low_value values ≤ℤ z → z ≤ℤ high_value values → Contains values z
 
 abbrev pub IsBox : List (List ℤ) → Type 0
 IsBox box = All IsDomain box

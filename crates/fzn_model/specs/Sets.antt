@@ -1,5 +1,5 @@
 -- Finite sets of whole numbers as runs (MiniZinc Handbook, FlatZinc: set literals).
-use Rattle.std.specs.Prelude.{ℕ, ◌-◌, List, [], ◌∷◌, length, slice_index_or, ℤ, pos, ◌+ℤ◌, ◌≤ℤ◌, ◌<ℤ◌, Any, ⊤}
+use Rattle.std.specs.Prelude.{◌-◌, List, [], ◌∷◌, length, slice_index_or, ℤ, pos, ◌+ℤ◌, ◌≤ℤ◌, ◌<ℤ◌, Any, ⊤}
 
 -- the numbers from the low of a run to its high
 unfoldable pub IsWithin : ℤ × ℤ → ℤ → Type 0

@@ -39,13 +39,14 @@ mod goal;
 mod model;
 mod out;
 mod pick;
+#[cfg(test)]
+mod tests;
 
 pub use base::Base;
+pub use box_view::BoxView;
 pub use clause::Clause;
 pub use con::Con;
 pub use cumulative::{CumTask, Used};
-pub use box_view::BoxView;
-
 pub use goal::Goal;
 pub use lin::{Lin, Rel};
 pub use list::List;

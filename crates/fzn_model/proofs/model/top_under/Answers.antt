@@ -1,5 +1,5 @@
-use Rattle.std.proofs.Common.{rules, arith, FitsSigned, w64}
-use Rattle.std.proofs.lemmas.Int.{ints, to_z-of_z}
+use Rattle.std.proofs.Common.{rules, FitsSigned, w64}
+use Rattle.std.proofs.lemmas.Int.{to_z-of_z}
 use Rattle.fzn_model.proofs.Tops.{top_satisfy, top_maximise}
 use Rattle.fzn_model.proofs.model.top_under.Goals as goal
 

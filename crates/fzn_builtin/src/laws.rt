@@ -1,0 +1,13 @@
+ghost use Rattle.fzn_builtin.specs.Laws.{AreReified, AreSynonyms, reified_names, global_names};
+
+/// A law of the table: behind the name of each relation that can be reified, `_reif` makes a name with the same
+/// arguments and a bool behind them, exactly where which is true the relation holds.
+pub fn reified_names_match()
+    ensures { AreReified reified_names }
+{}
+
+/// A law of the table: the global constraints stand for the same under the name of the standard library and, with
+/// `fzn_` before it, under that of the solver's library.
+pub fn global_names_match()
+    ensures { AreSynonyms global_names }
+{}
