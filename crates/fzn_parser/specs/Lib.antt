@@ -1,0 +1,16 @@
+pub mod Refusals
+pub mod Numbers
+pub mod Names
+pub mod Exprs
+pub mod Sets
+pub mod Drafts
+pub mod Scalars
+pub mod Lists
+pub mod Annotations
+pub mod Types
+pub mod Outputs
+pub mod Items
+pub mod Constraints
+pub mod Solving
+pub mod Reading
+pub mod Search

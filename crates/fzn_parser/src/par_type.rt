@@ -1,0 +1,7 @@
+/// The type of a parameter.
+#[derive(Clone, Copy, Debug, PartialEq, Eq)]
+pub enum ParType {
+    Bool,
+    Int,
+    Set,
+}
