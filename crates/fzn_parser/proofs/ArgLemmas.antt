@@ -18,7 +18,7 @@ use Rattle.fzn_parser.specs.declared.decl.Decl.TheVariants as decl
 use Rattle.fzn_parser.specs.declared.scalar.Scalar.{Scalar}
 use Rattle.fzn_parser.specs.declared.scalar.Scalar.TheVariants.{IntConst, IntTerm, BoolConst, BoolTerm}
 use Rattle.fzn_parser.specs.Sets.{SetKept}
-use Rattle.fzn_parser.specs.Drafts.{DeclKept, ConFits}
+use Rattle.fzn_parser.specs.Drafts.{DeclKept, TruthsIn, ConFits}
 use Rattle.fzn_parser.specs.Scalars.{IsConstant, ScalarKept}
 use Rattle.fzn_parser.specs.Lists.{ListKept}
 use Rattle.fzn_parser.specs.Constraints.{is_constant, fitting_list, ArgsKept, ArgFits}
@@ -40,16 +40,18 @@ ints_only : (ds : List (List (ℤ × ℤ))) (ts : List Term) (b : Bool) → list
 ints_only ds ts true h p = record { count = omega (arith, p.count); each = λ k t q. record { within = p.terms k t q; fits = constants_each ts h k t q } }
 ints_only ds ts false h p = tt
 
-bools_only : (ds : List (List (ℤ × ℤ))) (ts : List Term) (b : Bool) → list_all is_constant ts ≡ b → DeclKept ds (decl.Bools ts) → IfSome (cond b (Some ts) None) (ListKept 0 ds BoolConst)
+bools_only : (ds : List (List (ℤ × ℤ))) (ts : List Term) (b : Bool) → list_all is_constant ts ≡ b → TruthsIn ds ts → IfSome (cond b (Some ts) None) (ListKept 0 ds BoolConst)
 bools_only ds ts true h p = record { count = omega (arith, p.count); each = λ k t q. record { within = (p.each k t q).within; fits = (constants_each ts h k t q, (p.each k t q).truth) } }
 bools_only ds ts false h p = tt
 
 -- an array that is named
 pub named_kept : (s : Scalar) (e : Decl) (ds : List (List (ℤ × ℤ))) → DeclKept ds e → IfSome (fitting_list s e) (ListKept 0 ds s)
-named_kept IntConst (decl.Ints ts) ds p = ints_only ds ts (list_all is_constant ts) refl p
-named_kept IntTerm (decl.Ints ts) ds p = record { count = omega (arith, p.count); each = λ k t q. record { within = p.terms k t q; fits = tt } }
-named_kept BoolConst (decl.Bools ts) ds p = bools_only ds ts (list_all is_constant ts) refl p
-named_kept BoolTerm (decl.Bools ts) ds p = record { count = omega (arith, p.count); each = λ k t q. record { within = (p.each k t q).within; fits = (p.each k t q).truth } }
+named_kept IntConst (decl.Ints false ts) ds p = tt
+named_kept IntConst (decl.Ints true ts) ds p = ints_only ds ts (list_all is_constant ts) refl p
+named_kept IntTerm (decl.Ints parameters ts) ds p = record { count = omega (arith, p.count); each = λ k t q. record { within = p.terms k t q; fits = tt } }
+named_kept BoolConst (decl.Bools false ts) ds p = tt
+named_kept BoolConst (decl.Bools true ts) ds p = bools_only ds ts (list_all is_constant ts) refl p
+named_kept BoolTerm (decl.Bools parameters ts) ds p = record { count = omega (arith, p.count); each = λ k t q. record { within = (p.each k t q).within; fits = (p.each k t q).truth } }
 named_kept s e ds p = tt
 
 -- a list that is written out

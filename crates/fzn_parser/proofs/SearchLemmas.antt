@@ -22,8 +22,8 @@ pub variables_step : (vars new all : List Term) (terms : List Term) (i : ℕ) (d
 variables_step vars new all terms i d h e told = rw (e, add-one) (sym (ap (with_variables vars) (drop-cons terms i d h)) ∙ told)
 
 pub array_kept : (ds : List (List (ℤ × ℤ))) (e : Decl) → DeclKept ds e → IfSome (array_terms e) (All (TermIn (length ds)))
-array_kept ds (decl.Ints ts) p = p.terms
-array_kept ds (decl.Bools ts) p = λ k t h. (p.each k t h).within
+array_kept ds (decl.Ints parameters ts) p = p.terms
+array_kept ds (decl.Bools parameters ts) p = λ k t h. (p.each k t h).within
 array_kept ds e p = tt
 
 pub picks_push : (n : ℕ) (picks : List Pick) (p : Pick) → PickKept n p → All (PickKept n) picks → All (PickKept n) (picks ++ p ∷ [])

@@ -89,8 +89,8 @@ module _ (ds : List (List (ℤ × ℤ))) (d : List (ℤ × ℤ)) where
   decl_wider (decl.Int t) p = term_wider t p
   decl_wider (decl.Bool t) p = truth_wider t p
   decl_wider (decl.Set set) p = p
-  decl_wider (decl.Ints ts) p = terms_wider ts p
-  decl_wider (decl.Bools ts) p = record { count = p.count; each = λ k t h. truth_wider (get_or ts k t) (p.each k t h) }
+  decl_wider (decl.Ints parameters ts) p = terms_wider ts p
+  decl_wider (decl.Bools parameters ts) p = record { count = p.count; each = λ k t h. truth_wider (get_or ts k t) (p.each k t h) }
   decl_wider decl.Sets p = tt
 
   pub names_wider : (names : Names) → All (EntryKept ds) names → All (EntryKept more) names

@@ -50,16 +50,17 @@ abbrev pub is_constant : Term → Bool
 is_constant (Const z) = true
 is_constant (Var k) = false
 
--- the list, where all its terms are constants
-abbrev pub constants_only : List Term → Option (List Term)
-constants_only terms = if list_all is_constant terms then Some terms else None
+-- the list of an array of parameters, all of whose terms are constants
+abbrev pub constants_only : Bool → List Term → Option (List Term)
+constants_only parameters terms = if parameters && list_all is_constant terms then Some terms else None
 
--- the list, where a declaration is an array of the type needed
+-- The list, where a declaration is an array of the type needed. An array of variables is none of constants, whatever
+-- stands in it.
 abbrev pub fitting_list : Scalar → Decl → Option (List Term)
-fitting_list IntConst (decl.Ints terms) = constants_only terms
-fitting_list IntTerm (decl.Ints terms) = Some terms
-fitting_list BoolConst (decl.Bools terms) = constants_only terms
-fitting_list BoolTerm (decl.Bools terms) = Some terms
+fitting_list IntConst (decl.Ints parameters terms) = constants_only parameters terms
+fitting_list IntTerm (decl.Ints parameters terms) = Some terms
+fitting_list BoolConst (decl.Bools parameters terms) = constants_only parameters terms
+fitting_list BoolTerm (decl.Bools parameters terms) = Some terms
 fitting_list s d = None
 
 -- What an argument of a list gives: its terms, and how many elements stood in lists by now. Those of an array that is

@@ -114,8 +114,8 @@ abbrev pub DeclKept : List (List (ℤ × ℤ)) → Decl → Type 0
 DeclKept ds (decl.Int t) = TermIn (length ds) t
 DeclKept ds (decl.Bool t) = TruthIn ds t
 DeclKept ds (decl.Set set) = SetKept set
-DeclKept ds (decl.Ints ts) = TermsIn (length ds) ts
-DeclKept ds (decl.Bools ts) = TruthsIn ds ts
+DeclKept ds (decl.Ints parameters ts) = TermsIn (length ds) ts
+DeclKept ds (decl.Bools parameters ts) = TruthsIn ds ts
 DeclKept ds decl.Sets = ⊤
 
 pub record EntryKept (ds : List (List (ℤ × ℤ))) (e : List ℕ × Decl) : Type 0 where

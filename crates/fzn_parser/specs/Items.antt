@@ -112,8 +112,8 @@ sets_at declared used names ts = do
 
 -- the elements of an array of parameters, by their type; and how many there are
 abbrev pub values_by : ParType → ℕ → ℕ → Names → List Spot → Result ((Decl × ℕ) × List Spot) Refused
-values_by par.Bool declared used names ts = list_at declared used BoolConst names ts >>= λ x. Ok ((decl.Bools x.0, length x.0), x.1)
-values_by par.Int declared used names ts = list_at declared used IntConst names ts >>= λ x. Ok ((decl.Ints x.0, length x.0), x.1)
+values_by par.Bool declared used names ts = list_at declared used BoolConst names ts >>= λ x. Ok ((decl.Bools true x.0, length x.0), x.1)
+values_by par.Int declared used names ts = list_at declared used IntConst names ts >>= λ x. Ok ((decl.Ints true x.0, length x.0), x.1)
 values_by par.Set declared used names ts = sets_at declared used names ts >>= λ x. Ok ((decl.Sets, x.0), x.1)
 
 -- an array, whose elements are counted
@@ -130,10 +130,10 @@ parameters_at declared d ts = do
   values ← values_by ty.0 declared d.elements d.names anns.1
   Ok (with_array d name.0 values.0.0 values.0.1, values.1)
 
--- an array of ints or bools
+-- an array of variables, ints or bools
 abbrev pub array_of : Bool → List Term → Decl
-array_of true terms = decl.Bools terms
-array_of false terms = decl.Ints terms
+array_of true terms = decl.Bools false terms
+array_of false terms = decl.Ints false terms
 
 -- the output of an array, with its index ranges
 abbrev pub array_out : List ℕ → Bool → List Term → List (ℤ × ℤ) → Out

@@ -73,8 +73,8 @@ one_variable names vars ts = do
 
 -- the terms of an array of ints or bools
 abbrev pub array_terms : Decl → Option (List Term)
-array_terms (decl.Ints terms) = Some terms
-array_terms (decl.Bools terms) = Some terms
+array_terms (decl.Ints parameters terms) = Some terms
+array_terms (decl.Bools parameters terms) = Some terms
 array_terms d = None
 
 -- the variables of an array

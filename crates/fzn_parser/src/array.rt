@@ -189,12 +189,12 @@ fn values(
         ParType::Bool => {
             let terms = list(alloc, reader, draft, declared, Scalar::BoolConst)?;
             let count = count_of(terms.as_slice(), used);
-            Ok((Decl::Bools(terms), count))
+            Ok((Decl::Bools(true, terms), count))
         }
         ParType::Int => {
             let terms = list(alloc, reader, draft, declared, Scalar::IntConst)?;
             let count = count_of(terms.as_slice(), used);
-            Ok((Decl::Ints(terms), count))
+            Ok((Decl::Ints(true, terms), count))
         }
         ParType::Set => {
             let count = sets(alloc, reader, draft, declared)?;
@@ -241,13 +241,14 @@ fn parameters<'a>(
     Ok(())
 }
 
+/// An array of variables.
 fn array_of(truth: bool, terms: List<Term>) -> Decl
     ensures { result ≡ array_of truth terms }
 {
     if truth {
-        Decl::Bools(terms)
+        Decl::Bools(false, terms)
     } else {
-        Decl::Ints(terms)
+        Decl::Ints(false, terms)
     }
 }
 

@@ -57,10 +57,11 @@ fn are_constants(terms: &[Term]) -> bool
     terms.iter().all(|term| is_constant(term))
 }
 
-fn constants_only(terms: &[Term]) -> Option<&[Term]>
-    ensures { option_map (λ ts. ts.now) result ≡ constants_only terms.now }
+/// The list of an array of parameters.
+fn constants_only(parameters: bool, terms: &[Term]) -> Option<&[Term]>
+    ensures { option_map (λ ts. ts.now) result ≡ constants_only parameters terms.now }
 {
-    if are_constants(terms) {
+    if parameters && are_constants(terms) {
         Some(terms)
     } else {
         None
@@ -72,10 +73,16 @@ fn fitting_list(need: Scalar, decl: &Decl) -> Option<&[Term]>
     ensures { option_map (λ ts. ts.now) result ≡ fitting_list need decl.now }
 {
     match (need, decl) {
-        (Scalar::IntConst, Decl::Ints(terms)) => constants_only(terms.as_slice()),
-        (Scalar::IntTerm, Decl::Ints(terms)) => Some(terms.as_slice()),
-        (Scalar::BoolConst, Decl::Bools(terms)) => constants_only(terms.as_slice()),
-        (Scalar::BoolTerm, Decl::Bools(terms)) => Some(terms.as_slice()),
+        (Scalar::IntConst, Decl::Ints(parameters, terms)) => constants_only(
+            *parameters,
+            terms.as_slice(),
+        ),
+        (Scalar::IntTerm, Decl::Ints(_, terms)) => Some(terms.as_slice()),
+        (Scalar::BoolConst, Decl::Bools(parameters, terms)) => constants_only(
+            *parameters,
+            terms.as_slice(),
+        ),
+        (Scalar::BoolTerm, Decl::Bools(_, terms)) => Some(terms.as_slice()),
         _ => None,
     }
 }

@@ -9,10 +9,10 @@ pub enum Decl {
     Bool(Term),
     /// A set of ints.
     Set(Runs),
-    /// An array of ints.
-    Ints(List<Term>),
-    /// An array of bools.
-    Bools(List<Term>),
+    /// An array of ints, and whether it is one of parameters.
+    Ints(bool, List<Term>),
+    /// An array of bools, and whether it is one of parameters.
+    Bools(bool, List<Term>),
     /// An array of sets, which no constraint takes.
     Sets,
 }

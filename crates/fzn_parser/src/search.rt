@@ -176,8 +176,8 @@ fn array_terms(decl: &Decl) -> Option<&[Term]>
     ensures kept { (ds : List (List (ℤ × ℤ))) → DeclKept ds decl.now → IfSome result (λ ts. All (TermIn (length ds)) ts.now) }
 {
     match decl {
-        Decl::Ints(terms) => Some(terms.as_slice()),
-        Decl::Bools(terms) => Some(terms.as_slice()),
+        Decl::Ints(_, terms) => Some(terms.as_slice()),
+        Decl::Bools(_, terms) => Some(terms.as_slice()),
         _ => None,
     }
 }

@@ -5,7 +5,7 @@ use std::test::Fail;
 /// A file, and the code, line and span of its refusal.
 type Case = (&'static [u8], Code, u32, u32, u32);
 
-static REFUSED: [Case; 22] = [
+static REFUSED: [Case; 23] = [
     (b"var 1..2 x;", Code::Syntax, 1, 9, 10),
     (b"var 1..2: x", Code::Syntax, 1, 11, 11),
     (b"array [01..2] of int: a = [1,2];", Code::Syntax, 1, 7, 9),
@@ -52,6 +52,13 @@ static REFUSED: [Case; 22] = [
         29,
     ),
     (b"var 0..1000001: x;", Code::OutOfRange, 1, 7, 14),
+    (
+        b"array [1..1] of var int: a = [1]; constraint int_lin_le(a,[2],3);",
+        Code::WrongArguments,
+        1,
+        56,
+        57,
+    ),
     (b"array [1..2] of int: a = [1];", Code::Lengths, 1, 27, 28),
     (
         b"constraint int_lin_le([1],[],3);",
@@ -105,7 +112,14 @@ fn refuses_at_the_first_token(rt: HostRuntime) -> Result<(), Fail> {
 /// A file, and how many variables, constraints, outputs and picks its model has.
 type Read = (&'static [u8], usize, usize, usize, usize);
 
-static READ: [Read; 7] = [
+static READ: [Read; 8] = [
+    (
+        b"array [1..1] of int: c = [1]; constraint int_lin_le(c,c,3); solve satisfy;",
+        0,
+        1,
+        0,
+        0,
+    ),
     (b"solve satisfy;", 0, 0, 0, 0),
     (b"predicate p(var int: x;\nsolve satisfy;", 0, 0, 0, 0),
     (
