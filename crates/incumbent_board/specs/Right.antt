@@ -1,7 +1,6 @@
 -- When an answer is right. No propagation, no cache, no order of search and no thread stands here: solutions are the
 -- assignments within the domains under which each constraint holds.
 use Rattle.std.specs.Prelude.{◌≡◌, ℕ, List, ℤ, ◌≤ℤ◌, Some, None, ⊤, length}
-use Rattle.std.specs.declared.option.Option.{Option}
 use Rattle.fzn_model.specs.Parts.{Parts}
 use Rattle.fzn_model.specs.Solutions.{Solves, cost}
 use Rattle.fzn_model.specs.declared.goal.Goal.TheVariants as goal

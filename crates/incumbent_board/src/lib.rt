@@ -5,14 +5,19 @@
 //!
 //! What contracts see: all types as they are written.
 //!
+//! What it promises: that a right answer which is decided says what listing all assignments would say, the one verdict of
+//! the model ([`right_answers_agree`]).
+//!
 //! What it stands on: fzn_model.
 #![tactic(auto)]
 
+mod agreement;
 mod answer;
 mod options;
 mod outcome;
 mod why;
 
+pub use agreement::right_answers_agree;
 pub use answer::Answer;
 pub use options::Options;
 pub use outcome::Outcome;
