@@ -1,10 +1,4 @@
-pub mod Turns
-pub mod Words
-pub mod Spelled
-pub mod Traversal
-pub mod Kept
-pub mod Names
-pub mod Models
 pub mod Solving
 pub mod Nearness
 pub mod Loading
+pub mod Endings

@@ -1,6 +1,6 @@
 -- The values of a solution are values of the language.
-use Rattle.std.proofs.Common.{◌≡◌, ℕ, ◌+◌, ◌<◌, ◌≤◌, List, length, get_or, arith, ◌∙◌, sym, ap, subst, ℤ, pos, negsuc, ◌≤ℤ◌, suc, zero, []}
-use Rattle.std.specs.Prelude.{All, unsigned_abs}
+use Rattle.std.proofs.Common.{◌≡◌, ◌<◌, List, length, get_or, arith, subst, ℤ, pos, ◌≤ℤ◌, []}
+use Rattle.std.specs.Prelude.{All}
 use Rattle.std.proofs.lemmas.Int.{ints}
 use Rattle.std.proofs.lemmas.List.{get_or_default}
 use Rattle.fzn_model.specs.Parts.{Parts}

@@ -1,14 +1,15 @@
 -- Enumeration meets each solution.
-use Rattle.std.proofs.Common.{◌≡◌, ℕ, suc, zero, ◌+◌, ◌-◌, ◌*◌, ◌<◌, ◌≤◌, ◌⊎◌, inl, inr, List, [], ◌∷◌, ◌++◌, length, get_or, take, drop, refl, ap, arith, ◌∙◌, sym, subst, ℤ, pos, ◌+ℤ◌, ◌≤ℤ◌, ◌<ℤ◌, length-append, below_more}
-use Rattle.std.specs.Prelude.{Some, None}
+use Rattle.std.proofs.Common.{◌≡◌, ℕ, ◌+◌, ◌<◌, List, [], ◌∷◌, ◌++◌, length, get_or, take, refl, ap, arith, ◌∙◌, sym, subst, ℤ, pos, ◌+ℤ◌, ◌≤ℤ◌, ◌<ℤ◌, length-append, below_more}
+use Rattle.std.specs.Prelude.{Some, None, IsSome}
 use Rattle.std.specs.declared.option.Option.{Option}
 use Rattle.std.proofs.lemmas.Int.{ints, by_lt_z}
 use Rattle.std.proofs.lemmas.List.{take_more, get_or_default}
 use Rattle.std.proofs.Math.Seq.{take-length, take-append_seam}
 use Rattle.fzn_model.specs.Parts.{Parts}
 use Rattle.fzn_model.specs.Sets.{IsWithin, IsIn}
-use Rattle.fzn_model.specs.Solutions.{Solves, cost, InDomains, solves_length}
-use Rattle.cachesolve_cli.specs.Covering.{AtMost, IsSound, KeepsBest, Covers, CoversRun}
+use Rattle.fzn_model.specs.Solutions.{Solves, InDomains, solves_length}
+use Rattle.fzn_model.specs.declared.goal.Goal.TheVariants as goal
+use Rattle.cachesolve_cli.specs.Covering.{AtMost, IsSound, KeepsBest, Suffices, Covers, CoversRun}
 use Rattle.incumbent_board.specs.Right.{IsBest}
 
 -- a whole assignment stands for itself alone
@@ -89,3 +90,13 @@ none_sound m = tt
 pub sound_length : (m : Parts) (b : List ℤ) → IsSound m (Some b) → length b ≡ length m.doms
 unfolding IsSound
 sound_length m b s = solves_length m b s
+
+-- where any solution will do, each costs the same
+pub enough : (m : Parts) (best : Option (List ℤ)) → m.goal ≡ goal.Satisfy → IsSome best → Suffices m best
+unfolding Suffices AtMost
+enough m None e s θ = absurd (cc)
+enough m (Some b) e s θ = rw e (omega (arith, ints))
+
+pub enough_run : (m : Parts) (front : List ℤ) (run : ℤ × ℤ) (best : Option (List ℤ)) → Suffices m best → CoversRun m front run best
+unfolding Suffices CoversRun
+enough_run m front run best h θ s e w = h θ

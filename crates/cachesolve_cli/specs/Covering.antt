@@ -1,5 +1,5 @@
 -- What enumeration has met so far.
-use Rattle.std.specs.Prelude.{◌≡◌, ℕ, List, ℤ, ◌≤ℤ◌, Some, None, ⊤, length, take, slice_index_or, pos}
+use Rattle.std.specs.Prelude.{◌≡◌, List, ℤ, ◌≤ℤ◌, Some, None, ⊤, length, take, slice_index_or, pos}
 use Rattle.std.specs.declared.option.Option.{Option}
 use Rattle.fzn_model.specs.Parts.{Parts}
 use Rattle.fzn_model.specs.Sets.{IsWithin}
@@ -18,6 +18,10 @@ IsSound m (Some b) = Solves m b
 -- what the old best was no worse than, the new one is no worse than
 unfoldable pub KeepsBest : Parts → Option (List ℤ) → Option (List ℤ) → Type 0
 KeepsBest m old new = (θ : List ℤ) → AtMost m old θ → AtMost m new θ
+
+-- the best is no worse than any assignment
+unfoldable pub Suffices : Parts → Option (List ℤ) → Type 0
+Suffices m best = (θ : List ℤ) → AtMost m best θ
 
 -- the best is no worse than each solution that begins so
 unfoldable pub Covers : Parts → List ℤ → Option (List ℤ) → Type 0

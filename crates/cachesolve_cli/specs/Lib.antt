@@ -1,5 +1,3 @@
-pub mod Form
-pub mod Reading
-pub mod Views
 pub mod Covering
+pub mod Ways
 pub mod Headline

@@ -1,22 +1,15 @@
 //! The program: a FlatZinc file from standard input, its answer on standard output.
 //!
 //! What it is for: [`running::run`] is the one call that the program makes, and the place where all that is promised to a
-//! user stands. So far it reads one small form of file (`specs/Form.antt`): declarations `var LOW..HIGH`, constraints
-//! `int_lin_le`, and `solve minimize`; and it solves by trying each assignment.
+//! user stands. It solves by trying each assignment.
 //!
 //! What it promises: a run that ends with status 0 has written exactly the text of a right answer for the model of its
-//! input, and each other status has its cause. `specs/Headline.antt` has the words of these promises.
+//! input, and each other status has its cause and its message. `specs/Headline.antt` has the words of these promises, and
+//! `specs/Ways.antt` the statuses.
 //!
-//! What it stands on: cs_base, fzn_model, incumbent_board, solution_out. That `main` hands the real words, input and
+//! What it stands on: cs_base, fzn_model, fzn_parser, incumbent_board, solution_out. That `main` hands the real words, input and
 //! outputs to `run` is trusted.
 #![tactic(auto)]
-
-// From bytes to a model.
-mod building;
-mod fault;
-mod file;
-mod pieces;
-mod values;
 
 // From a model to an answer.
 mod search;

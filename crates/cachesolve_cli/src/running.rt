@@ -1,83 +1,93 @@
-ghost use Rattle.std.specs.Prelude.{◌≡◌, ◌≤◌, ◌⊎◌, ◌↔◌, [], IfOk, IfErr, Err, length};
-ghost use Rattle.std.specs.Io.KnownBytes.{Keeps};
-ghost use Rattle.cs_base.specs.Causes.{Rose};
-ghost use Rattle.fzn_model.specs.Parts.{Parts};
-ghost use Rattle.cachesolve_cli.specs.Form.{Accepts};
-ghost use Rattle.cachesolve_cli.specs.Headline.{ReadsAs, IsRefused, IsDecidedRun, IsCutRun, IsTold};
+ghost use Rattle.std.specs.Prelude.{◌≡◌, ◌⊎◌, ◌↔◌, [], IfOk, IfErr, Err, Some, take, drop};
+ghost use Rattle.std.specs.Io.KnownBytes.{Appends, Keeps};
+ghost use Rattle.cs_base.specs.Causes.{Rose, AppendsFront};
+ghost use Rattle.cachesolve_cli.specs.Headline.{IsRefused, IsDecidedRun, IsCutRun, IsTold};
+ghost use Rattle.cachesolve_cli.specs.Ways.{token_of, status_of, message_of, EndsOver, IsAll, IsUnread, IsRead};
 ghost use Rattle.cachesolve_cli.specs.declared.ending.Ending.TheVariants as ending;
-ghost use Rattle.cachesolve_cli.specs.declared.fault.FormFault.TheVariants as fault;
 
-use crate::building::build;
 use crate::ending::Ending;
-use crate::fault::FormFault;
-use crate::file::read_file;
 use crate::search::solve;
-use cs_base::{ReadFault, Sink, Source, Status, Whole, Words, read_all, write_whole};
-use fzn_model::Model;
+use cs_base::{ReadFault, Sink, Source, Status, Whole, Words, read_all};
+use fzn_parser::{Code, ParseFault, Refused, parse};
 use solution_out::write_answer;
 use std::alloc::Global;
 use std::thread::Threads;
 
-/// The model of the bytes of a file of the form.
-#[tactic(auto, using(crate::proofs::Models::accepted, crate::proofs::Models::not_read, crate::proofs::Models::not_made))]
-fn model_of(alloc: Global, bytes: &[u8]) -> Result<Model, FormFault>
-    requires { length bytes.now ≤ 67108864 }
-    ensures model { IfOk result (Accepts bytes.now) }
-    ensures refused { result ≡ Err fault.NotBuilt → (m : Parts) → Accepts bytes.now m → ⊥ }
-{
-    let file = match read_file(alloc, bytes) {
-        Ok(file) => file,
-        Err(fault) => return Err(fault),
-    };
-    match build(alloc, &file) {
-        Ok(model) => Ok(model),
-        Err(fault) => Err(fault),
-    }
-}
-
-/// The model of what the source has, or how the run ends without one.
-#[tactic(auto, using(crate::proofs::Loading::whole_read, crate::proofs::Loading::whole_refused, crate::proofs::Loading::long_refused))]
-fn load<S: Source>(alloc: Global, source: &mut S) -> Result<Model, Ending>
-    ensures read { IfOk result (ReadsAs (S.left source.old)) }
-    ensures refused { result ≡ Err ending.NotBuilt → IsRefused (S.left source.old) }
+/// All that the source has left, or how the run ends without it.
+#[tactic(auto, using(crate::proofs::Loading::all_taken, crate::proofs::Loading::long_refused))]
+fn fetch<S: Source>(alloc: Global, source: &mut S) -> Result<Vec<u8>, Ending<'static>>
+    ensures all { IfOk result (λ bytes. IsAll (S.left source.old) bytes.items) }
+    ensures ends { IfErr result (EndsOver (S.left source.old)) }
+    ensures which { IfErr result IsUnread }
     ensures fault { result ≡ Err ending.ReadFailed → Rose (S.faults source.old) (S.faults source.new) }
     ensures kept { (result ≡ Err ending.ReadFailed → ⊥) → S.faults source.new ≡ S.faults source.old }
-    ensures which { IfErr result (λ e. (e ≡ ending.NotBuilt) ⊎ (e ≡ ending.ReadFailed) ⊎ (e ≡ ending.NoMemory)) }
 {
     if source.begin(None).is_err() {
         return Err(Ending::ReadFailed);
     }
-    let bytes = match read_all(alloc, source, 67_108_864) {
-        Ok(Whole::Bytes(bytes)) => bytes,
-        Ok(Whole::More) => return Err(Ending::NotBuilt),
-        Err(ReadFault::Fault) => return Err(Ending::ReadFailed),
-        Err(ReadFault::NoMemory) => return Err(Ending::NoMemory),
-    };
-    match model_of(alloc, bytes.as_slice()) {
-        Ok(model) => Ok(model),
-        Err(FormFault::NotBuilt) => Err(Ending::NotBuilt),
-        Err(FormFault::NoMemory) => Err(Ending::NoMemory),
+    match read_all(alloc, source, 67_108_864) {
+        Ok(Whole::Bytes(bytes)) => Ok(bytes),
+        Ok(Whole::More) => {
+            let too_long = Refused {
+                code: Code::TooLong,
+                line: 1,
+                from: 0,
+                to: 0,
+            };
+            Err(Ending::Refused(too_long, b""))
+        }
+        Err(ReadFault::Fault) => Err(Ending::ReadFailed),
+        Err(ReadFault::NoMemory) => Err(Ending::NoMemory),
     }
 }
 
-/// Reads, solves and writes.
-fn proceed<S: Source, O: Sink>(alloc: Global, words: &Words, source: &mut S, out: &mut O) -> Ending
-    ensures words { (result ≡ ending.WrongWords) ↔ (words.now ≡ [] → ⊥) }
-    ensures decided { result ≡ ending.Decided → IsDecidedRun (S.left source.old) (O.written out.old) (O.written out.new) }
-    ensures refused { result ≡ ending.NotBuilt → IsRefused (S.left source.old) }
-    ensures cut { result ≡ ending.WriteFailed → IsCutRun (S.left source.old) (O.written out.old) (O.written out.new) }
+/// The bytes behind so many.
+#[tactic(auto, using(crate::proofs::Loading::none_behind))]
+fn behind(bytes: &[u8], count: usize) -> &[u8]
+    ensures { result.now ≡ drop count bytes.now }
+{
+    if count >= bytes.len() {
+        return &[];
+    }
+    &bytes[count..]
+}
+
+/// At most so many bytes at the front.
+#[tactic(auto, using(crate::proofs::Loading::all_in_front))]
+fn front(bytes: &[u8], count: usize) -> &[u8]
+    ensures { result.now ≡ take count bytes.now }
+{
+    if count >= bytes.len() {
+        return bytes;
+    }
+    &bytes[..count]
+}
+
+/// The bytes of the token that shows a refusal.
+#[tactic(auto, unfolding(crate::specs::Ways::token_of))]
+fn token_of(refused: Refused, bytes: &[u8]) -> &[u8]
+    ensures { result.now ≡ token_of refused bytes.now }
+{
+    let count = refused.to.saturating_sub(refused.from);
+    front(behind(bytes, refused.from as usize), count as usize)
+}
+
+/// Reads the model, solves it, and writes the answer.
+fn proceed<'a, O: Sink>(alloc: Global, bytes: &'a [u8], out: &mut O) -> Ending<'a>
+    ensures decided { result ≡ ending.Decided → IsDecidedRun (Some bytes.now) (O.written out.old) (O.written out.new) }
+    ensures cut { result ≡ ending.WriteFailed → IsCutRun (Some bytes.now) (O.written out.old) (O.written out.new) }
     ensures silent { (result ≡ ending.Decided → ⊥) → (result ≡ ending.WriteFailed → ⊥) → Keeps (O.written out.old) (O.written out.new) }
-    ensures read { result ≡ ending.ReadFailed → Rose (S.faults source.old) (S.faults source.new) }
-    ensures read_kept { (result ≡ ending.ReadFailed → ⊥) → S.faults source.new ≡ S.faults source.old }
+    ensures ends { EndsOver (Some bytes.now) result }
+    ensures which { IsRead result }
     ensures write { result ≡ ending.WriteFailed → Rose (O.faults out.old) (O.faults out.new) }
     ensures write_kept { (result ≡ ending.WriteFailed → ⊥) → O.faults out.new ≡ O.faults out.old }
 {
-    if !words.is_empty() {
-        return Ending::WrongWords;
-    }
-    let model = match load(alloc, source) {
+    let model = match parse(alloc, bytes) {
         Ok(model) => model,
-        Err(end) => return end,
+        Err(ParseFault::Refused(refused)) => {
+            return Ending::Refused(refused, token_of(refused, bytes));
+        }
+        Err(ParseFault::NoMemory) => return Ending::NoMemory,
     };
     let Ok(answer) = solve(alloc, &model) else {
         return Ending::NoMemory;
@@ -88,9 +98,19 @@ fn proceed<S: Source, O: Sink>(alloc: Global, words: &Words, source: &mut S, out
     }
 }
 
-/// One call of the program: reads a file of the form from standard input, solves it, and writes the answer.
+/// Says how the run ended.
+fn finish<E: Sink>(end: &Ending, err: &mut E) -> Status
+    ensures status { result.code ≡ status_of end.now }
+    ensures told { Appends (E.written err.old) (E.written err.new) (message_of end.now) ⊎ (Rose (E.faults err.old) (E.faults err.new) × AppendsFront (E.written err.old) (E.written err.new) (message_of end.now)) }
+{
+    let _ = end.tell(err);
+    Status { code: end.status() }
+}
+
+/// One call of the program: reads a FlatZinc file from standard input, solves it, and writes the answer.
 ///
 /// The words are refused where there are any. Want of memory ends with status 4; no clause says when it comes.
+#[tactic(auto, using(crate::proofs::Endings::decided, crate::proofs::Endings::wrong_words, crate::proofs::Endings::refused, crate::proofs::Endings::read_failed, crate::proofs::Endings::write_failed, crate::proofs::Endings::decided_over, crate::proofs::Endings::cut_over, crate::proofs::Endings::ends_over))]
 pub fn run<R: Threads + Sync, S: Source, O: Sink, E: Sink>(
     rt: &R,
     alloc: Global,
@@ -102,7 +122,7 @@ pub fn run<R: Threads + Sync, S: Source, O: Sink, E: Sink>(
     // The headline: a decided run writes exactly the text of a right answer for the model that it read.
     ensures decided { result.code ≡ 0 → IsDecidedRun (S.left source.old) (O.written out.old) (O.written out.new) }
 
-    // Status 2 exactly where there are words; 5 only where the bytes are not of the form.
+    // Status 2 exactly where there are words; 5 only where reading refuses the bytes.
     ensures words { (result.code ≡ 2) ↔ (words.now ≡ [] → ⊥) }
     ensures refused { result.code ≡ 5 → IsRefused (S.left source.old) }
 
@@ -117,9 +137,15 @@ pub fn run<R: Threads + Sync, S: Source, O: Sink, E: Sink>(
     ensures silent { (result.code ≡ 0 → ⊥) → (result.code ≡ 7 → ⊥) → Keeps (O.written out.old) (O.written out.new) }
 
     // What is said on `err`, and which statuses there are.
-    ensures told { IsTold (E.written err.old) (E.written err.new) (E.faults err.old) (E.faults err.new) result.code }
+    ensures told { IsTold (S.left source.old) (E.written err.old) (E.written err.new) (E.faults err.old) (E.faults err.new) result.code }
 {
-    let end = proceed(alloc, words, source, out);
-    let _ = write_whole(err, end.message());
-    Status { code: end.code() }
+    if !words.is_empty() {
+        return finish(&Ending::WrongWords, err);
+    }
+    let bytes = match fetch(alloc, source) {
+        Ok(bytes) => bytes,
+        Err(end) => return finish(&end, err),
+    };
+    let end = proceed(alloc, bytes.as_slice(), out);
+    finish(&end, err)
 }

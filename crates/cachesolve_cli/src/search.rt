@@ -1,7 +1,7 @@
 ghost use Rattle.std.specs.Prelude.{◌≡◌, ◌++◌, ◌∷◌, [], ◌≤◌, ◌<◌, length, List, ℤ, IfOk, OnOk, IsTrue, IsFalse, ◌≤ℤ◌};
 ghost use Rattle.fzn_model.specs.Solutions.{Solves, cost};
 ghost use Rattle.incumbent_board.specs.Right.{Right, IsDecided, AnswerFits};
-ghost use Rattle.cachesolve_cli.specs.Covering.{IsSound, AtMost, KeepsBest, Covers, CoversRun};
+ghost use Rattle.cachesolve_cli.specs.Covering.{IsSound, AtMost, KeepsBest, Suffices, Covers, CoversRun};
 
 use fzn_model::{Goal, List, Model, cost_of, satisfies};
 use incumbent_board::Answer;
@@ -67,6 +67,17 @@ fn offer(
     Ok(())
 }
 
+/// Whether any solution will do, and one was found.
+#[tactic(auto, using(crate::proofs::Solving::enough))]
+fn is_enough(model: &Model, best: &Option<List<i64>>) -> bool
+    ensures { IsTrue result → Suffices model.now best.now }
+{
+    match model.goal {
+        Goal::Satisfy => best.is_some(),
+        _ => false,
+    }
+}
+
 /// Tries each assignment that begins with the values so far.
 #[cycle(search)]
 #[tactic(auto, using(crate::proofs::Solving::leaf, crate::proofs::Solving::keeps_refl, crate::proofs::Solving::keeps_trans, crate::proofs::Solving::runs_none, crate::proofs::Solving::runs_more, crate::proofs::Solving::all_runs))]
@@ -96,7 +107,7 @@ fn search(
 
 /// Tries each value of a run for the next variable.
 #[cycle(search)]
-#[tactic(auto, using(crate::proofs::Solving::keeps_refl, crate::proofs::Solving::keeps_trans, crate::proofs::Solving::below_start, crate::proofs::Solving::one_more, crate::proofs::Solving::run_done, crate::proofs::Solving::last_one))]
+#[tactic(auto, using(crate::proofs::Solving::keeps_refl, crate::proofs::Solving::keeps_trans, crate::proofs::Solving::below_start, crate::proofs::Solving::one_more, crate::proofs::Solving::run_done, crate::proofs::Solving::last_one, crate::proofs::Solving::enough_run))]
 fn search_run(
     alloc: Global,
     model: &Model,
@@ -112,6 +123,9 @@ fn search_run(
     ensures covers { OnOk result (CoversRun model.now front.old.items run.now best.new) }
 {
     for value in run.0..=run.1 {
+        if is_enough(model, best) {
+            return Ok(());
+        }
         search_value(alloc, model, value, front, best)?;
     }
     Ok(())
@@ -141,7 +155,7 @@ fn search_value(
     Ok(())
 }
 
-/// Tries each assignment, and keeps the first one of least cost.
+/// Tries each assignment, and keeps the first one of least cost; where any solution will do, it ends with the first.
 #[tactic(auto, using(crate::proofs::Solving::none_right, crate::proofs::Solving::some_right, crate::proofs::Solving::none_sound, crate::proofs::Solving::sound_length), unfolding(crate::specs::Covering::IsSound))]
 pub fn solve(alloc: Global, model: &Model) -> Result<Answer, AllocError>
     ensures right { IfOk result (Right model.now) }

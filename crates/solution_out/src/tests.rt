@@ -2,7 +2,7 @@ ghost use Rattle.std.specs.Prelude.{◌≡◌, ◌↔◌, ◌<◌, [], ◌∷◌
 ghost use Rattle.fzn_model.specs.Kept.{IsValue, TermIn, IsShape, OutKept, DomainKept};
 ghost use Rattle.incumbent_board.specs.Right.{AnswerFits};
 
-use crate::write_answer;
+use crate::{write_answer, write_refusal};
 use cs_base::{Failed, MemSink};
 use fzn_model::{Goal, List, Model, Out, Runs, Term};
 use incumbent_board::{Answer, Why};
@@ -299,6 +299,33 @@ fn a_failed_write_leaves_what_came_before(rt: HostRuntime) -> Result<(), Fail> {
     for before in 0..39 {
         let sink = fails_after(rt.alloc(), before)?;
         assert_eq!(rt; sink.bytes(), &text[..before as usize]);
+    }
+    Ok(())
+}
+
+static REFUSALS: [(u32, &[u8], &[u8], &[u8]); 3] = [
+    (
+        2,
+        b"no solve",
+        b"",
+        b"cachesolve: line 2: no solve: end of input\n",
+    ),
+    (10, b"lengths", b")", b"cachesolve: line 10: lengths: )\n"),
+    (
+        1,
+        b"undeclared",
+        b"a_name_of_more_than_forty_bytes_of_which_only_these_are_shown",
+        b"cachesolve: line 1: undeclared: a_name_of_more_than_forty_bytes_of_which\n",
+    ),
+];
+
+#[test]
+fn refusals_show_the_token(rt: HostRuntime) -> Result<(), Fail> {
+    for (line, name, token, text) in &REFUSALS {
+        let mut sink = MemSink::new(rt.alloc(), 1000, 1000, Vec::new(rt.alloc()))?;
+        let written = write_refusal(&mut sink, *line, name, token);
+        assert!(rt; written.is_ok());
+        assert_eq!(rt; sink.bytes(), *text);
     }
     Ok(())
 }

@@ -1,7 +1,6 @@
-use Rattle.std.proofs.Common.{◌≡◌, ◌<◌, ◌+◌, length, get_or, arith, rules, pos, ◌+ℤ◌, ◌∙◌, sym, ap, subst, ℤ, List}
-use Rattle.std.proofs.lemmas.Int.{ints}
+use Rattle.std.proofs.Common.{◌≡◌, ◌<◌, length, get_or, arith, rules, ◌∙◌, sym, ap, subst, ℤ, List}
 use Rattle.fzn_model.specs.Parts.{Parts}
-use Rattle.cachesolve_cli.proofs.Solving.{all_runs, one_more, keeps_refl, keeps_trans, run_done, CoversRuns}
+use Rattle.cachesolve_cli.proofs.Solving.{all_runs, CoversRuns}
 use Rattle.cachesolve_cli.proofs.search.+search.Goals as goal
 
 pub search-returns-after-loop-run-clause-covers : goal.search-returns-after-loop-run-clause-covers
