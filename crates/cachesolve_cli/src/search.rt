@@ -1,5 +1,6 @@
-ghost use Rattle.std.specs.Prelude.{◌≡◌, ◌++◌, ◌∷◌, [], ◌≤◌, ◌<◌, length, List, ℤ, IfOk, OnOk, IsTrue, IsFalse, ◌≤ℤ◌};
+ghost use Rattle.std.specs.Prelude.{◌≡◌, ◌++◌, ◌∷◌, [], ◌≤◌, ◌<◌, length, List, ℤ, IfOk, OnOk, IsTrue, IsFalse, IsSome, ◌↔◌, ◌≤ℤ◌};
 ghost use Rattle.fzn_model.specs.Solutions.{Solves, cost};
+ghost use Rattle.fzn_model.specs.declared.goal.Goal.TheVariants as goal;
 ghost use Rattle.incumbent_board.specs.Right.{Right, IsDecided, AnswerFits};
 ghost use Rattle.cachesolve_cli.specs.Covering.{IsSound, AtMost, KeepsBest, Suffices, Covers, CoversRun};
 
@@ -70,7 +71,8 @@ fn offer(
 /// Whether any solution will do, and one was found.
 #[tactic(auto, using(crate::proofs::Solving::enough))]
 fn is_enough(model: &Model, best: &Option<List<i64>>) -> bool
-    ensures { IsTrue result → Suffices model.now best.now }
+    ensures suffices { IsTrue result → Suffices model.now best.now }
+    ensures found { IsTrue result ↔ ((model.now.goal ≡ goal.Satisfy) × IsSome best.now) }
 {
     match model.goal {
         Goal::Satisfy => best.is_some(),
