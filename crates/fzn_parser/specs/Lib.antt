@@ -14,3 +14,5 @@ pub mod Constraints
 pub mod Solving
 pub mod Reading
 pub mod Search
+pub mod Grammar
+pub mod Laws

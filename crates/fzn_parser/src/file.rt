@@ -6,6 +6,7 @@ ghost use Rattle.fzn_parser.specs.Refusals.{Gives, repeat, most};
 ghost use Rattle.fzn_parser.specs.Annotations.{passing};
 ghost use Rattle.fzn_parser.specs.Drafts.{nothing};
 ghost use Rattle.fzn_parser.specs.Reading.{token_at, ends_item, predicate_at, item_at, one_item, is_end, is_end_by, items_at, model_by, reads};
+ghost use Rattle.fzn_parser.specs.Laws.{IsSpelled, IsFairFault, IsBeyondForm};
 
 use crate::array::array;
 use crate::code::Code;
@@ -119,12 +120,9 @@ fn items<'a>(alloc: Global, reader: &mut Reader<'a>) -> Result<Draft<'a>, ParseF
     Err(reader.refuse(Code::Syntax))
 }
 
-/// The model that the bytes of a FlatZinc file state (MiniZinc Handbook, FlatZinc), within the limits of this project.
-///
-/// `Refused` comes with the first token that shows a fault, and the least code of those that it shows; a file of more
-/// than 67,108,864 bytes is `TooLong` at line 1, before all tokens. `NoMemory` comes where the model has no room.
+/// The model, by the definition of reading.
 #[tactic(auto, unfolding(crate::specs::Reading::reads))]
-pub fn parse(alloc: Global, bytes: &[u8]) -> Result<Model, ParseFault>
+fn read(alloc: Global, bytes: &[u8]) -> Result<Model, ParseFault>
     ensures { Gives (λ m. m) result (reads bytes.now) }
 {
     if bytes.len() > 67_108_864 {
@@ -142,4 +140,22 @@ pub fn parse(alloc: Global, bytes: &[u8]) -> Result<Model, ParseFault>
         return Err(reader.refuse(Code::NoSolve));
     };
     Ok(model)
+}
+
+/// The model that the bytes of a FlatZinc file state (MiniZinc Handbook, FlatZinc), within the limits of this project.
+///
+/// `Refused` comes with the first token that shows a fault, and the least code of those that it shows; a file of more
+/// than 67,108,864 bytes is `TooLong` at line 1, before all tokens. `NoMemory` comes where the model has no room.
+///
+/// What is accepted is spelled by the grammar of `specs/Grammar.antt`, and what the grammar spells is not refused as
+/// `Syntax`, `Float` or `SetVar`. A refusal has the line and the span of a token of the file, of its end, or of the byte
+/// that begins no token.
+#[tactic(auto, using(crate::proofs::FileLaws::spelled, crate::proofs::FileLaws::fair, crate::proofs::FormedFile::formed))]
+pub fn parse(alloc: Global, bytes: &[u8]) -> Result<Model, ParseFault>
+    ensures reads { Gives (λ m. m) result (reads bytes.now) }
+    ensures spelled { IfOk result (λ _. IsSpelled bytes.now) }
+    ensures fair { IfErr result (λ e. IsFairFault bytes.now e) }
+    ensures formed { IsSpelled bytes.now → IfErr result (λ e. IsBeyondForm e) }
+{
+    read(alloc, bytes)
 }

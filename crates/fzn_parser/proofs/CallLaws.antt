@@ -1,0 +1,127 @@
+-- Constraints, and what is sought: what is read is spelled by its rule, and a refusal is fair.
+use Rattle.std.proofs.Common.{◌≡◌, ℕ, List, [], true, Option, Some, None, length, refl, inl, inr, codes, is_some, nat_lt}
+use Rattle.std.specs.Prelude.{slice_get}
+use Rattle.fzn_lexer.specs.Spots.{Spot, first, after_first, IsWhole}
+use Rattle.fzn_lexer.specs.declared.kind.Kind.TheVariants as kind
+use Rattle.fzn_model.specs.declared.term.Term.{Term}
+use Rattle.fzn_model.specs.declared.con.Con.{Con}
+use Rattle.fzn_model.specs.declared.goal.Goal.TheVariants as goal
+use Rattle.fzn_builtin.specs.declared.needs.Need.{Need}
+use Rattle.fzn_builtin.specs.declared.needs.Need.TheVariants as need
+use Rattle.fzn_builtin.specs.Builtins.{numbered, needs_of, shape_of}
+use Rattle.fzn_builtin.specs.Made.{made}
+use Rattle.fzn_parser.specs.declared.begin.Begin.{Begin}
+use Rattle.fzn_parser.specs.declared.begin.Begin.TheVariants as begin
+use Rattle.fzn_parser.specs.declared.code.Code.TheVariants as code
+use Rattle.fzn_parser.specs.declared.decl.Decl.{Decl}
+use Rattle.fzn_parser.specs.declared.scalar.Scalar.{Scalar}
+use Rattle.fzn_parser.specs.declared.scalar.Scalar.TheVariants.{IntConst, IntTerm, BoolConst, BoolTerm}
+use Rattle.fzn_parser.specs.Refusals.{is_mark, is_word}
+use Rattle.fzn_parser.specs.Names.{Names, find_name}
+use Rattle.fzn_parser.specs.Exprs.{begins}
+use Rattle.fzn_parser.specs.Drafts.{Stated}
+use Rattle.fzn_parser.specs.Types.{set_at}
+use Rattle.fzn_parser.specs.Scalars.{scalar_at}
+use Rattle.fzn_parser.specs.Constraints.{misfit, fitting_list, list_or_refuse, named_list, written_list, list_by, list_arg_at, Args, arg_by, needed_by, one_arg, is_whole, built, built_at, known, call_at, constraint_at}
+use Rattle.fzn_parser.specs.Solving.{solve_ann, goal_at, solve_at}
+use Rattle.fzn_parser.specs.Grammar.{◌·◌, ◌∣◌, Mark, Keyword, ListOf, Expr, Ann, Call, Constraint, Solve}
+use Rattle.fzn_parser.specs.Laws.{Reads}
+use Rattle.fzn_parser.proofs.Lawful.{IsLawful, after, is_ok, refused, onward, given, next, finish, wider, widen, choice, nothing_read, took, takes_spelled, mark_law, name_law}
+use Rattle.fzn_parser.proofs.ListLaws.{separated_law}
+use Rattle.fzn_parser.proofs.BeginLaws.{Begun, begun}
+use Rattle.fzn_parser.proofs.ExprLaws.{name_element, set_law, scalar_law, terms_law}
+use Rattle.fzn_parser.proofs.AnnLaws.{ann_law, passed_law, annotations_law}
+use Rattle.fzn_parser.proofs.DeclLaws.{took_word}
+
+list_or_law : {X : List Spot → Type 0} (terms : Option (List Term)) (used : ℕ) (ts : List Spot) → IsWhole ts → Reads X ts (after_first ts) → IsLawful X after ts (list_or_refuse terms used ts)
+list_or_law None used ts w r = refused code.WrongArguments ts w
+list_or_law (Some terms) used ts w r = is_ok _ r
+
+named_list_law : {X : List Spot → Type 0} (s : Scalar) (d : Option Decl) (used : ℕ) (ts : List Spot) → IsWhole ts → Reads X ts (after_first ts) → IsLawful X after ts (named_list s d used ts)
+named_list_law s None used ts w r = refused code.Undeclared ts w
+named_list_law s (Some d) used ts w r = list_or_law (fitting_list s d) used ts w r
+
+-- from its "[" on
+written_law : (s : Scalar) (names : Names) (used : ℕ) (ts : List Spot) → Reads (Mark (codes "[")) ts (after_first ts) → IsLawful ListOf after ts (written_list s names used ts)
+unfolding written_list ListOf
+written_law s names used ts r = onward r (next (terms_law used s names (after_first ts) r.whole) (λ elements p. finish _ (mark_law _ elements.1 p) (λ x. refl)))
+
+list_by_law : (b : Begin) (s : Scalar) (names : Names) (used : ℕ) (ts : List Spot) → IsWhole ts → Begun b ts → IsLawful Expr after ts (list_by b s names used ts)
+unfolding Expr
+list_by_law begin.Bracket s names used ts w r = widen (λ us p. inr p) (written_law s names used ts r)
+list_by_law begin.Name s names used ts w r = named_list_law s (find_name names (first ts).text) used ts w (wider (λ us p. inl p) (name_element ts r))
+list_by_law b s names used ts w r = refused (misfit names ts) ts w
+
+list_arg_law : (s : Scalar) (names : Names) (used : ℕ) (ts : List Spot) → IsWhole ts → IsLawful Expr after ts (list_arg_at s names used ts)
+unfolding list_arg_at
+list_arg_law s names used ts w = list_by_law (begins ts) s names used ts w (begun ts w)
+
+scalar_arg_law : (s : Scalar) (names : Names) (ts : List Spot) → IsWhole ts → IsLawful Expr after ts (scalar_at s names ts)
+unfolding Expr
+scalar_arg_law s names ts w = widen (λ us p. inl p) (scalar_law s names ts w)
+
+set_arg_law : (names : Names) (ts : List Spot) → IsWhole ts → IsLawful Expr after ts (set_at true names ts)
+unfolding Expr
+set_arg_law names ts w = widen (λ us p. inl p) (set_law true names ts w)
+
+arg_law : (n : Need) (names : Names) (used : ℕ) (ts : List Spot) → IsWhole ts → IsLawful Expr after ts (arg_by n names used ts)
+arg_law need.IntConst names used ts w = finish _ (scalar_arg_law IntConst names ts w) (λ x. refl)
+arg_law need.IntTerm names used ts w = finish _ (scalar_arg_law IntTerm names ts w) (λ x. refl)
+arg_law need.BoolTerm names used ts w = finish _ (scalar_arg_law BoolTerm names ts w) (λ x. refl)
+arg_law need.SetConst names used ts w = finish _ (set_arg_law names ts w) (λ x. refl)
+arg_law need.IntConsts names used ts w = finish _ (list_arg_law IntConst names used ts w) (λ x. refl)
+arg_law need.IntTerms names used ts w = finish _ (list_arg_law IntTerm names used ts w) (λ x. refl)
+arg_law need.BoolConsts names used ts w = finish _ (list_arg_law BoolConst names used ts w) (λ x. refl)
+arg_law need.BoolTerms names used ts w = finish _ (list_arg_law BoolTerm names used ts w) (λ x. refl)
+
+needed_law : (n : Option Need) (names : Names) (used : ℕ) (ts : List Spot) → IsWhole ts → IsLawful Expr after ts (needed_by n names used ts)
+needed_law None names used ts w = refused (misfit names ts) ts w
+needed_law (Some n) names used ts w = arg_law n names used ts w
+
+one_arg_law : (builtin : ℕ) (names : Names) (done : Args) (ts : List Spot) → IsWhole ts → IsLawful Expr after ts (one_arg builtin names done ts)
+unfolding one_arg
+one_arg_law builtin names done ts w = finish _ (needed_law (slice_get (needs_of builtin) (length done.0)) names done.1 ts w) (λ x. refl)
+
+built_law : {X : List Spot → Type 0} (c : Option Con) (used : ℕ) (ts : List Spot) → IsWhole ts → Reads X ts (after_first ts) → IsLawful X after ts (built c used ts)
+built_law None used ts w r = refused code.Lengths ts w
+built_law (Some c) used ts w r = is_ok _ r
+
+built_at_law : (builtin : ℕ) (args : Args) (ts : List Spot) → IsWhole ts → IsLawful (Mark (codes ")")) after ts (built_at builtin args ts)
+unfolding built_at
+built_at_law builtin args ts w = choice (is_mark (codes ")") ts)
+    (λ h. choice (is_whole builtin (length args.0)) (λ e. built_law (made (shape_of builtin) args.0) args.1 ts w (took _ (takes_spelled kind.Mark (codes ")")) ts w h)) (λ e. refused code.WrongArguments ts w))
+    (λ h. refused code.Syntax ts w)
+
+known_law : (b : Option ℕ) (ts : List Spot) → IsWhole ts → IsLawful (λ us. us ≡ []) (λ x. ts) ts (known b ts)
+known_law None ts w = refused code.UnknownConstraint ts w
+known_law (Some b) ts w = is_ok _ (nothing_read ts refl w)
+
+call_law : (used : ℕ) (names : Names) (ts : List Spot) → IsWhole ts → IsLawful Call after ts (call_at used names ts)
+unfolding call_at
+call_law used names ts w = given (name_law ts w) (λ name r. given (known_law (numbered name.0) ts w) (λ builtin q. onward r (next (mark_law _ name.1 r.whole) (λ start p.
+    next (separated_law _ (one_arg builtin names) (one_arg_law builtin names) ([], used) start p) (λ args p. built_at_law builtin args.0 args.1 p)))))
+
+-- from its "constraint" on
+pub constraint_law : (d : Stated) (ts : List Spot) → IsWhole ts → Reads (Keyword (codes "constraint")) ts (after_first ts) → IsLawful Constraint after ts (constraint_at d ts)
+unfolding constraint_at Constraint
+constraint_law d ts w r = choice (nat_lt d.items 200000)
+    (λ h. onward r (next (call_law d.elements d.names (after_first ts) r.whole) (λ con p. finish _ (annotations_law _ passed_law tt con.1 p) (λ x. refl))))
+    (λ h. refused code.TooMany ts w)
+
+solve_ann_law : (found : Option (List Spot)) (ts : List Spot) → IsWhole ts → IsLawful Ann after ts (solve_ann found ts)
+unfolding solve_ann
+solve_ann_law found ts w = finish _ (ann_law ts w) (λ x. refl)
+
+goal_law : (names : Names) (ts : List Spot) → IsWhole ts → IsLawful (Keyword (codes "satisfy") ∣ ((Keyword (codes "minimize") ∣ Keyword (codes "maximize")) · Expr)) after ts (goal_at names ts)
+unfolding goal_at
+goal_law names ts w =
+    choice (is_word (codes "satisfy") ts) (λ h. is_ok _ (wider (λ us p. inl p) (took_word _ ts w h)))
+    (λ h. choice (is_word (codes "minimize") ts) (λ h. widen (λ us p. inr p) (let r = took_word (codes "minimize") ts w h in onward (wider (λ us p. inl p) r) (finish (λ x. (goal.Minimise x.0, x.1)) (scalar_arg_law IntTerm names (after_first ts) r.whole) (λ x. refl))))
+    (λ h. choice (is_word (codes "maximize") ts) (λ h. widen (λ us p. inr p) (let r = took_word (codes "maximize") ts w h in onward (wider (λ us p. inr p) r) (finish (λ x. (goal.Maximise x.0, x.1)) (scalar_arg_law IntTerm names (after_first ts) r.whole) (λ x. refl))))
+    (λ h. refused code.Syntax ts w)))
+
+-- from its "solve" on
+pub solve_law : (d : Stated) (ts : List Spot) → IsWhole ts → Reads (Keyword (codes "solve")) ts (after_first ts) → IsLawful Solve after ts (solve_at d ts)
+unfolding solve_at Solve
+solve_law d ts w r = choice (is_some d.goal) (λ h. refused code.TwoSolves ts w)
+    (λ h. onward r (next (annotations_law _ solve_ann_law None (after_first ts) r.whole) (λ search p. finish _ (goal_law d.names search.1 p) (λ x. refl))))
