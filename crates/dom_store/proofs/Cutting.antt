@@ -1,0 +1,210 @@
+-- What the narrowing of a term does to a store, from what it does to one domain.
+use Rattle.std.proofs.Common.{◌≡◌, ◌≢◌, ℕ, ◌<◌, ◌≤◌, ◌⊎◌, ◌↔◌, List, [], length, set, refl, sym, ap, subst, ◌∙◌, arith, Bool, true, false, not, inl, inr, length-set}
+use Rattle.std.specs.Prelude.{ℤ, pos, ◌+ℤ◌, ◌-ℤ◌, ◌≤ℤ◌, ◌<ℤ◌, slice_index_or, ◌&&◌, int_le, int_lt, Contains, MatchBool}
+use Rattle.std.specs.Ordering.{int_eq}
+use Rattle.std.proofs.lemmas.Int.{ints}
+use Rattle.std.proofs.lemmas.Bool.{false≢true, cases_eq, and_parts}
+use Rattle.std.proofs.lemmas.Bool.Decides.{Decides-int_eq}
+use Rattle.std.proofs.lemmas.List.{get_or-set_other, set-get_or}
+use Rattle.int_domain.specs.declared.narrow.Narrow.{Narrow}
+use Rattle.int_domain.specs.declared.narrow.Narrow.TheVariants.{Same, Changed, Empty}
+use Rattle.int_domain.specs.Narrowing.{Narrows, DropsValue, is_held}
+use Rattle.int_domain.specs.Values.{is_wide, low_of, high_of}
+use Rattle.int_domain.proofs.Facts.{contains_from_filter, filter_contains}
+use Rattle.int_domain.proofs.Narrowed.{le_from_test, test_from_le, lt_from_test}
+use Rattle.fzn_model.specs.declared.term.Term.TheVariants as term
+use Rattle.fzn_model.specs.Boxes.{IsBox, IsDomain, domain_at, low_value, high_value}
+use Rattle.dom_store.specs.Stores.{Stored, box_size}
+use Rattle.dom_store.specs.Narrowing.{AltersOnly}
+use Rattle.dom_store.specs.Cuts.{Cuts}
+use Rattle.dom_store.specs.Ends.{low_in, high_in}
+use Rattle.dom_store.proofs.Facts.{same_low, same_high}
+
+-- what a narrowing to the values with Q does to a domain
+pub record Keeps (Q : ℤ → Type 0) (old new : List ℤ) (answer : Narrow) : Type 0 where
+  pub within : (z : ℤ) → Contains new z → Contains old z
+  pub kept : (z : ℤ) → Contains old z → Q z → Contains new z
+  pub same : (answer ≡ Changed → ⊥) → new ≡ old
+  pub empty : answer ≡ Empty → (z : ℤ) → Contains old z → Q z → ⊥
+
+-- a test decides Q
+abbrev pub Tests : (ℤ → Bool) → (ℤ → Type 0) → Type 0
+Tests keep Q = (z : ℤ) → (keep z ≡ true) ↔ Q z
+
+no_values : (z : ℤ) → Contains [] z → ⊥
+no_values z has = omega (arith, has.1)
+
+pub narrows_keeps : (keep : ℤ → Bool) (Q : ℤ → Type 0) (old new : List ℤ) (answer : Narrow) → Tests keep Q → Narrows keep old new answer → Keeps Q old new answer
+unfolding Narrows
+narrows_keeps keep Q old new Same tests n = record {
+  within = λ z has. subst (λ xs. Contains xs z) n.1 has;
+  kept = λ z has q. subst (λ xs. Contains xs z) (sym n.1) has;
+  same = λ not_changed. n.1;
+  empty = λ e. absurd (cc);
+}
+narrows_keeps keep Q old new Changed tests n = record {
+  within = λ z has. (contains_from_filter keep old z (subst (λ xs. Contains xs z) n.0 has)).0;
+  kept = λ z has q. subst (λ xs. Contains xs z) (sym n.0) (filter_contains keep old z has ((tests z).1 q));
+  same = λ not_changed. absurd (not_changed refl);
+  empty = λ e. absurd (cc);
+}
+narrows_keeps keep Q old new Empty tests n = record {
+  within = λ z has. subst (λ xs. Contains xs z) n.1 has;
+  kept = λ z has q. subst (λ xs. Contains xs z) (sym n.1) has;
+  same = λ not_changed. n.1;
+  empty = λ e z has q. no_values z (subst (λ xs. Contains xs z) n.0 (filter_contains keep old z has ((tests z).1 q)));
+}
+
+-- where some values stay, each of them passes
+pub narrows_pass : (keep : ℤ → Bool) (Q : ℤ → Type 0) (old new : List ℤ) (answer : Narrow) → Tests keep Q → Narrows keep old new answer → (answer ≡ Empty → ⊥) → (z : ℤ) → Contains new z → Q z
+unfolding Narrows
+narrows_pass keep Q old new Same tests n some z has = (tests z).0 (contains_from_filter keep old z (subst (λ xs. Contains xs z) (n.1 ∙ sym n.0) has)).1
+narrows_pass keep Q old new Changed tests n some z has = (tests z).0 (contains_from_filter keep old z (subst (λ xs. Contains xs z) n.0 has)).1
+narrows_pass keep Q old new Empty tests n some z has = absurd (some refl)
+
+pub drops_keeps : (value : ℤ) (Q : ℤ → Type 0) (old new : List ℤ) (answer : Narrow) → Tests (λ x. not (int_eq x value)) Q → DropsValue value old new answer → Keeps Q old new answer
+unfolding DropsValue
+drops_keeps value Q old new answer tests drops = keeps_by (is_held value old) drops
+  where
+    keeps_by : (t : Bool) → MatchBool t ((answer ≡ Same) × (new ≡ old)) (Narrows (λ x. not (int_eq x value)) old new answer) → Keeps Q old new answer
+    keeps_by true held = record {
+      within = λ z has. subst (λ xs. Contains xs z) held.1 has;
+      kept = λ z has q. subst (λ xs. Contains xs z) (sym held.1) has;
+      same = λ not_changed. held.1;
+      empty = λ e. let both : Same ≡ Empty = sym held.0 ∙ e in absurd (cc);
+    }
+    keeps_by false narrows = narrows_keeps (λ x. not (int_eq x value)) Q old new answer tests narrows
+
+-- ---- tests
+pub tests_least : (low : ℤ) → Tests (λ x. int_le low x) (λ z. low ≤ℤ z)
+tests_least low z = (le_from_test low z, test_from_le low z)
+
+pub tests_most : (high : ℤ) → Tests (λ x. int_le x high) (λ z. z ≤ℤ high)
+tests_most high z = (le_from_test z high, test_from_le z high)
+
+pub tests_one : (value : ℤ) → Tests (λ x. int_eq x value) (λ z. z ≡ value)
+tests_one value z = ((Decides-int_eq z value).0, (Decides-int_eq z value).1)
+
+not_tests : (b : Bool) (P : Type 0) → ((b ≡ true) ↔ P) → (not b ≡ true) ↔ (P → ⊥)
+not_tests true P d = (λ e. absurd (false≢true e), λ n. absurd (n (d.0 refl)))
+not_tests false P d = (λ e p. false≢true (d.1 p), λ n. refl)
+
+pub tests_others : (value : ℤ) → Tests (λ x. not (int_eq x value)) (λ z. z ≢ value)
+tests_others value z = not_tests (int_eq z value) (z ≡ value) (tests_one value z)
+
+-- ---- the store
+elsewhere_at : (box new : List (List ℤ)) (var k : ℕ) (d : List ℤ) → new ≡ set box var d → (k ≡ var → ⊥) → domain_at new k ≡ domain_at box k
+elsewhere_at box new var k d is apart = ap (λ b. domain_at b k) is ∙ get_or-set_other box var k d [] apart
+
+stored_same : (old new : Stored) → new.box ≡ old.box → new.saved ≡ old.saved → new.changes ≡ old.changes → new ≡ old
+stored_same old new box saved changes =
+    ap (λ b. record { box = b; saved = new.saved; changes = new.changes }) box
+    ∙ ap (λ l. record { box = old.box; saved = l; changes = new.changes }) saved
+    ∙ ap (λ n. record { box = old.box; saved = old.saved; changes = n }) changes
+
+same_box : (var : ℕ) (old new : Stored) (answer : Narrow) → AltersOnly var answer old new → domain_at new.box var ≡ domain_at old.box var → new.box ≡ old.box
+same_box var old new answer alters same = alters.box ∙ ap (set old.box var) same ∙ set-get_or old.box var []
+
+same_store : (var : ℕ) (old new : Stored) (answer : Narrow) → AltersOnly var answer old new → (answer ≡ Changed → ⊥) → domain_at new.box var ≡ domain_at old.box var → new ≡ old
+same_store var old new Same alters not_changed same = stored_same old new (same_box var old new Same alters same) alters.saved alters.changes
+same_store var old new Changed alters not_changed same = absurd (not_changed refl)
+same_store var old new Empty alters not_changed same = stored_same old new (same_box var old new Empty alters same) alters.saved alters.changes
+
+same_count : (var : ℕ) (old new : Stored) (answer : Narrow) → AltersOnly var answer old new → length new.box ≡ length old.box
+same_count var old new answer alters = ap length alters.box ∙ length-set old.box var (domain_at new.box var)
+
+-- the other domains are as they were
+at_variable : (P : ℕ → Type 0) (var : ℕ) (k : ℕ) → P var → ((k ≡ var → ⊥) → P k) → P k
+at_variable P var k here there = elim (cases_eq k var) [ inl same ↦ subst P (sym same) here | inr apart ↦ there apart ]
+
+keeps_cuts : (Q : ℤ → Type 0) (var : ℕ) (old new : Stored) (answer : Narrow) → Keeps Q (domain_at old.box var) (domain_at new.box var) answer → AltersOnly var answer old new
+    → var < length old.box → (answer ≡ Changed → box_size new.box < box_size old.box) → old.changes ≤ new.changes → Cuts Q (term.Var var) old new answer
+keeps_cuts Q var old new answer keeps alters inside falls rises =
+    let count = same_count var old new answer alters in
+    let elsewhere : (k : ℕ) → (k ≡ var → ⊥) → domain_at new.box k ≡ domain_at old.box k = λ k apart. elsewhere_at old.box new.box var k (domain_at new.box var) alters.box apart in
+    record {
+      within = λ k z. at_variable (λ j. Contains (domain_at new.box j) z → Contains (domain_at old.box j) z) var k (keeps.within z) (λ apart. subst (λ xs. Contains xs z) (elsewhere k apart));
+      kept = λ θ lies q. record {
+        count = lies.count ∙ sym count;
+        each = λ k h. at_variable (λ j. Contains (domain_at new.box j) (slice_index_or θ j (pos 0))) var k
+            (keeps.kept (slice_index_or θ var (pos 0)) (lies.each var inside) q)
+            (λ apart. subst (λ xs. Contains xs (slice_index_or θ k (pos 0))) (sym (elsewhere k apart)) (lies.each k (omega arith)));
+      };
+      elsewhere = λ k apart. elsewhere k (λ same. apart (ap term.Var (sym same)));
+      count = count;
+      saved = alters.saved;
+      changes = rises;
+      same = λ is. same_store var old new answer alters (λ changed. not_both answer Same is changed cc) (keeps.same (λ changed. not_both answer Same is changed cc));
+      falls = falls;
+      empty = λ is. (
+        same_store var old new answer alters (λ changed. not_both answer Empty is changed cc) (keeps.same (λ changed. not_both answer Empty is changed cc)),
+        λ θ lies. keeps.empty is (slice_index_or θ var (pos 0)) (lies.each var inside),
+      );
+    }
+  where
+    not_both : (a b : Narrow) → a ≡ b → a ≡ Changed → (b ≡ Changed → ⊥) → ⊥
+    not_both a b is changed apart = apart (sym is ∙ changed)
+
+-- ---- each narrowing of a variable
+abbrev Fell : Narrow → Stored → Stored → Type 0
+Fell answer old new = answer ≡ Changed → box_size new.box < box_size old.box
+
+pub raise_cuts : (var : ℕ) (low : ℤ) (old new : Stored) (answer : Narrow) → Narrows (λ x. int_le low x) (domain_at old.box var) (domain_at new.box var) answer → AltersOnly var answer old new
+    → var < length old.box → Fell answer old new → old.changes ≤ new.changes → Cuts (λ z. low ≤ℤ z) (term.Var var) old new answer
+raise_cuts var low old new answer n alters inside falls rises =
+    keeps_cuts _ var old new answer (narrows_keeps _ _ (domain_at old.box var) (domain_at new.box var) answer (tests_least low) n) alters inside falls rises
+
+pub cap_cuts : (var : ℕ) (high : ℤ) (old new : Stored) (answer : Narrow) → Narrows (λ x. int_le x high) (domain_at old.box var) (domain_at new.box var) answer → AltersOnly var answer old new
+    → var < length old.box → Fell answer old new → old.changes ≤ new.changes → Cuts (λ z. z ≤ℤ high) (term.Var var) old new answer
+cap_cuts var high old new answer n alters inside falls rises =
+    keeps_cuts _ var old new answer (narrows_keeps _ _ (domain_at old.box var) (domain_at new.box var) answer (tests_most high) n) alters inside falls rises
+
+pub settle_cuts : (var : ℕ) (value : ℤ) (old new : Stored) (answer : Narrow) → Narrows (λ x. int_eq x value) (domain_at old.box var) (domain_at new.box var) answer → AltersOnly var answer old new
+    → var < length old.box → Fell answer old new → old.changes ≤ new.changes → Cuts (λ z. z ≡ value) (term.Var var) old new answer
+settle_cuts var value old new answer n alters inside falls rises =
+    keeps_cuts _ var old new answer (narrows_keeps _ _ (domain_at old.box var) (domain_at new.box var) answer (tests_one value) n) alters inside falls rises
+
+pub avoid_cuts : (var : ℕ) (value : ℤ) (old new : Stored) (answer : Narrow) → DropsValue value (domain_at old.box var) (domain_at new.box var) answer → AltersOnly var answer old new
+    → var < length old.box → Fell answer old new → old.changes ≤ new.changes → Cuts (λ z. z ≢ value) (term.Var var) old new answer
+avoid_cuts var value old new answer d alters inside falls rises =
+    keeps_cuts _ var old new answer (drops_keeps value _ (domain_at old.box var) (domain_at new.box var) answer (tests_others value) d) alters inside falls rises
+
+-- the domain of the variable afterwards
+pub domain_there : (var : ℕ) (old new : Stored) (answer : Narrow) → AltersOnly var answer old new → var < length old.box → IsBox new.box → IsDomain (domain_at new.box var)
+domain_there var old new answer alters inside sound = sound var [] (let count = same_count var old new answer alters in omega (arith, count))
+
+-- ---- what is reached, where some value stays
+pub raise_reaches : (low : ℤ) (xs ys : List ℤ) (answer : Narrow) → Narrows (λ x. int_le low x) xs ys answer → IsDomain ys → (answer ≡ Empty → ⊥) → low ≤ℤ low_value ys
+raise_reaches low xs ys answer n d some = narrows_pass (λ x. int_le low x) (λ z. low ≤ℤ z) xs ys answer (tests_least low) n some (low_value ys) (low_in ys d)
+
+pub cap_reaches : (high : ℤ) (xs ys : List ℤ) (answer : Narrow) → Narrows (λ x. int_le x high) xs ys answer → IsDomain ys → (answer ≡ Empty → ⊥) → high_value ys ≤ℤ high
+cap_reaches high xs ys answer n d some = narrows_pass (λ x. int_le x high) (λ z. z ≤ℤ high) xs ys answer (tests_most high) n some (high_value ys) (high_in ys d)
+
+pub settle_reaches : (value : ℤ) (xs ys : List ℤ) (answer : Narrow) → Narrows (λ x. int_eq x value) xs ys answer → IsDomain ys → (answer ≡ Empty → ⊥) → (low_value ys ≡ value) × (high_value ys ≡ value)
+settle_reaches value xs ys answer n d some =
+    let pass = narrows_pass (λ x. int_eq x value) (λ z. z ≡ value) xs ys answer (tests_one value) n some in
+    (pass (low_value ys) (low_in ys d), pass (high_value ys) (high_in ys d))
+
+held_is_open : (value : ℤ) (xs : List ℤ) → is_held value xs ≡ true → (pos 1024 ≤ℤ (high_value xs -ℤ low_value xs)) × (low_value xs <ℤ value) × (value <ℤ high_value xs)
+unfolding is_held is_wide
+held_is_open value xs held =
+    let parts = and_parts (int_lt (pos 1024) (high_of xs -ℤ low_of xs +ℤ pos 1)) (int_lt (low_of xs) value && int_lt value (high_of xs)) held in
+    let ends = and_parts (int_lt (low_of xs) value) (int_lt value (high_of xs)) parts.1 in
+    let wide = lt_from_test (pos 1024) (high_of xs -ℤ low_of xs +ℤ pos 1) parts.0 in
+    let above = lt_from_test (low_of xs) value ends.0 in
+    let below = lt_from_test value (high_of xs) ends.1 in
+    let low = same_low xs in
+    let high = same_high xs in
+    (omega (arith, ints, wide, low, high), omega (arith, ints, above, low), omega (arith, ints, below, high))
+
+-- the dropped value is gone, or lies strictly between the bounds of a wide domain
+pub avoid_reaches : (value : ℤ) (xs ys : List ℤ) (answer : Narrow) → DropsValue value xs ys answer → (answer ≡ Empty → ⊥) → Contains ys value
+    → (pos 1024 ≤ℤ (high_value ys -ℤ low_value ys) → (value ≡ low_value ys) ⊎ (value ≡ high_value ys)) → ⊥
+unfolding DropsValue
+avoid_reaches value xs ys answer drops some has bound = reaches_by (is_held value xs) refl drops
+  where
+    reaches_by : (t : Bool) → is_held value xs ≡ t → MatchBool t ((answer ≡ Same) × (ys ≡ xs)) (Narrows (λ x. not (int_eq x value)) xs ys answer) → ⊥
+    reaches_by true is held =
+        let open_at = held_is_open value ys (ap (is_held value) held.1 ∙ is) in
+        elim (bound open_at.0) [ inl low ↦ omega (arith, ints, open_at.1, low) | inr high ↦ omega (arith, ints, open_at.2, high) ]
+    reaches_by false is narrows = narrows_pass (λ x. not (int_eq x value)) (λ z. z ≢ value) xs ys answer (tests_others value) narrows some value has refl

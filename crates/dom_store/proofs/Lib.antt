@@ -1,0 +1,5 @@
+pub mod Facts
+pub mod Narrowed
+pub mod Levels
+pub mod Cutting
+pub mod Passing

@@ -1,0 +1,205 @@
+-- What follows from a box, and from narrowings in a row, for the crates above.
+use Rattle.std.specs.Prelude.{◌≡◌, ◌<◌, ◌≤◌, ◌⊎◌, List, [], length, slice_index_or, ℤ, ◌≤ℤ◌, Contains}
+use Rattle.std.proofs.Common.{refl, sym, subst, ◌∙◌, ap, arith, inl, inr}
+use Rattle.std.proofs.lemmas.Int.{ints}
+use Rattle.std.proofs.lemmas.List.Elements.{All-contains, Contains-get_or}
+use Rattle.int_domain.specs.declared.narrow.Narrow.{Narrow}
+use Rattle.int_domain.specs.declared.narrow.Narrow.TheVariants.{Same, Changed, Empty}
+use Rattle.fzn_model.specs.declared.con.Con.{Con}
+use Rattle.fzn_model.specs.declared.term.Term.{Term}
+use Rattle.fzn_model.specs.declared.term.Term.TheVariants as term
+use Rattle.fzn_model.specs.Meaning.{val, Holds}
+use Rattle.fzn_model.specs.declared.base.Base.{Base}
+use Rattle.fzn_model.specs.declared.base.Base.TheVariants as base
+use Rattle.fzn_model.specs.declared.con.Con.TheVariants as con
+use Rattle.fzn_model.specs.Kept.{TermIn, IsBit, ConKept, of_call}
+use Rattle.fzn_model.specs.Boxes.{IsBox, domain_at, InBox, low_value, high_value}
+use Rattle.dom_store.specs.Stores.{Stored, box_size}
+use Rattle.dom_store.specs.Narrowing.{Loses, HasNone}
+use Rattle.dom_store.specs.Cuts.{Cuts}
+use Rattle.dom_store.specs.Bounds.{term_low, term_high, TermHas, IsFixed, IsAt}
+use Rattle.dom_store.specs.Booleans.{IsBoolean, BaseBooleans, ConBooleans}
+use Rattle.dom_store.specs.Propagation.{Suits, Runs}
+use Rattle.dom_store.specs.Ends.{between, low_in, high_in}
+
+-- ---- terms over a box
+pub val_low : (box : List (List ℤ)) (t : Term) (θ : List ℤ) → IsBox box → TermIn (length box) t → InBox box θ → term_low box t ≤ℤ val t θ
+val_low box (term.Const z) θ sound inside lies = omega (arith, ints)
+val_low box (term.Var k) θ sound inside lies = (between (domain_at box k) _ (sound k [] inside) (lies.each k inside)).0
+
+pub val_high : (box : List (List ℤ)) (t : Term) (θ : List ℤ) → IsBox box → TermIn (length box) t → InBox box θ → val t θ ≤ℤ term_high box t
+val_high box (term.Const z) θ sound inside lies = omega (arith, ints)
+val_high box (term.Var k) θ sound inside lies = (between (domain_at box k) _ (sound k [] inside) (lies.each k inside)).1
+
+pub val_has : (box : List (List ℤ)) (t : Term) (θ : List ℤ) → TermIn (length box) t → InBox box θ → TermHas box t (val t θ)
+val_has box (term.Const z) θ inside lies = refl
+val_has box (term.Var k) θ inside lies = lies.each k inside
+
+-- a fixed term has its one value under each assignment of the box
+pub fixed_val : (box : List (List ℤ)) (t : Term) (θ : List ℤ) → IsBox box → TermIn (length box) t → IsFixed box t → InBox box θ → val t θ ≡ term_low box t
+fixed_val box t θ sound inside fixed lies =
+    let low : term_low box t ≤ℤ val t θ = val_low box t θ sound inside lies in
+    let high : val t θ ≤ℤ term_high box t = val_high box t θ sound inside lies in
+    let one : term_low box t ≡ term_high box t = fixed in
+    omega (arith, ints)
+
+pub at_val : (box : List (List ℤ)) (t : Term) (v : ℤ) (θ : List ℤ) → IsBox box → TermIn (length box) t → IsAt box t v → InBox box θ → val t θ ≡ v
+at_val box t v θ sound inside at lies = fixed_val box t θ sound inside (at.low ∙ sym at.high) lies ∙ at.low
+
+-- the bounds of a term are values of it, and all others lie between them
+pub has_low : (box : List (List ℤ)) (t : Term) → IsBox box → TermIn (length box) t → TermHas box t (term_low box t)
+has_low box (term.Const z) sound inside = refl
+has_low box (term.Var k) sound inside = low_in (domain_at box k) (sound k [] inside)
+
+pub has_high : (box : List (List ℤ)) (t : Term) → IsBox box → TermIn (length box) t → TermHas box t (term_high box t)
+has_high box (term.Const z) sound inside = refl
+has_high box (term.Var k) sound inside = high_in (domain_at box k) (sound k [] inside)
+
+pub has_between : (box : List (List ℤ)) (t : Term) (v : ℤ) → IsBox box → TermIn (length box) t → TermHas box t v → (term_low box t ≤ℤ v) × (v ≤ℤ term_high box t)
+has_between box (term.Const z) v sound inside has = (omega (arith, ints), omega (arith, ints))
+has_between box (term.Var k) v sound inside has = between (domain_at box k) v (sound k [] inside) has
+
+pub low_to_high : (box : List (List ℤ)) (t : Term) → IsBox box → TermIn (length box) t → term_low box t ≤ℤ term_high box t
+low_to_high box t sound inside = (has_between box t (term_low box t) sound inside (has_low box t sound inside)).1
+
+-- ---- narrowings in a row
+pub loses_refl : (P : List ℤ → Type 0) (box : List (List ℤ)) → Loses P box box
+loses_refl P box = record { count = refl; within = λ k z has. has; kept = λ θ lies p. lies; falls = inl refl }
+
+falls_trans : (a b c : List (List ℤ)) → (b ≡ a) ⊎ (box_size b < box_size a) → (c ≡ b) ⊎ (box_size c < box_size b) → (c ≡ a) ⊎ (box_size c < box_size a)
+falls_trans a b c (inl same) (inl again) = inl (again ∙ same)
+falls_trans a b c (inl same) (inr less) = inr (subst (λ d. box_size c < box_size d) same less)
+falls_trans a b c (inr less) (inl same) = inr (subst (λ d. box_size d < box_size a) (sym same) less)
+falls_trans a b c (inr less) (inr again) = inr (omega arith)
+
+pub loses_trans : (P : List ℤ → Type 0) (a b c : List (List ℤ)) → Loses P a b → Loses P b c → Loses P a c
+loses_trans P a b c first then = record {
+  count = then.count ∙ first.count;
+  within = λ k z has. first.within k z (then.within k z has);
+  kept = λ θ lies p. then.kept θ (first.kept θ lies p) p;
+  falls = falls_trans a b c first.falls then.falls;
+}
+
+pub runs_refl : (c : Con) (s : Stored) → Runs c s s
+runs_refl c s = record { loses = loses_refl (Holds c) s.box; saved = refl; changes = omega arith }
+
+pub runs_trans : (c : Con) (r s t : Stored) → Runs c r s → Runs c s t → Runs c r t
+runs_trans c r s t first then = record {
+  loses = loses_trans (Holds c) r.box s.box t.box first.loses then.loses;
+  saved = then.saved ∙ first.saved;
+  changes = omega (arith, first.changes, then.changes);
+}
+
+-- where nothing is left, nothing was
+pub none_before : (P : List ℤ → Type 0) (old new : List (List ℤ)) → Loses P old new → HasNone P new → HasNone P old
+none_before P old new loses none = λ θ lies p. none θ (loses.kept θ lies p) p
+
+pub smaller : (P : List ℤ → Type 0) (old new : List (List ℤ)) → Loses P old new → box_size new ≤ box_size old
+smaller P old new loses = elim loses.falls [ inl same ↦ subst (λ b. box_size b ≤ box_size old) (sym same) (omega arith) | inr less ↦ omega arith ]
+
+pub same_size : (P : List ℤ → Type 0) (old new : List (List ℤ)) → Loses P old new → box_size new ≡ box_size old → new ≡ old
+same_size P old new loses size = elim loses.falls [ inl same ↦ same | inr less ↦ absurd (omega arith) ]
+
+-- bounds only come closer
+pub low_rises : (P : List ℤ → Type 0) (old new : List (List ℤ)) (t : Term) → IsBox old → IsBox new → Loses P old new → TermIn (length old) t → term_low old t ≤ℤ term_low new t
+low_rises P old new (term.Const z) was is loses inside = omega (arith, ints)
+low_rises P old new (term.Var k) was is loses inside =
+    let here : k < length new = omega (arith, loses.count) in
+    (between (domain_at old k) (low_value (domain_at new k)) (was k [] inside) (loses.within k _ (low_in (domain_at new k) (is k [] here)))).0
+
+pub high_falls : (P : List ℤ → Type 0) (old new : List (List ℤ)) (t : Term) → IsBox old → IsBox new → Loses P old new → TermIn (length old) t → term_high new t ≤ℤ term_high old t
+high_falls P old new (term.Const z) was is loses inside = omega (arith, ints)
+high_falls P old new (term.Var k) was is loses inside =
+    let here : k < length new = omega (arith, loses.count) in
+    (between (domain_at old k) (high_value (domain_at new k)) (was k [] inside) (loses.within k _ (high_in (domain_at new k) (is k [] here)))).1
+
+-- an assignment of what is left was one before
+pub in_before : (P : List ℤ → Type 0) (old new : List (List ℤ)) (θ : List ℤ) → Loses P old new → InBox new θ → InBox old θ
+in_before P old new θ loses lies = record {
+  count = lies.count ∙ loses.count;
+  each = λ k h. loses.within k _ (lies.each k (omega (arith, loses.count)));
+}
+
+pub term_stays : (P : List ℤ → Type 0) (old new : List (List ℤ)) (t : Term) → Loses P old new → TermIn (length old) t → TermIn (length new) t
+term_stays P old new t loses inside = subst (λ n. TermIn n t) (sym loses.count) inside
+
+-- what is fixed stays so
+pub at_stays : (P : List ℤ → Type 0) (old new : List (List ℤ)) (t : Term) (v : ℤ) → IsBox old → IsBox new → Loses P old new → TermIn (length old) t → IsAt old t v → IsAt new t v
+at_stays P old new t v was is loses inside at =
+    let low : term_low old t ≤ℤ term_low new t = low_rises P old new t was is loses inside in
+    let high : term_high new t ≤ℤ term_high old t = high_falls P old new t was is loses inside in
+    let ordered : term_low new t ≤ℤ term_high new t = low_to_high new t is (term_stays P old new t loses inside) in
+    let one : term_low old t ≡ v = at.low in
+    let other : term_high old t ≡ v = at.high in
+    record { low = omega (arith, ints); high = omega (arith, ints) }
+
+pub fixed_stays : (P : List ℤ → Type 0) (old new : List (List ℤ)) (t : Term) → IsBox old → IsBox new → Loses P old new → TermIn (length old) t → IsFixed old t → IsFixed new t
+fixed_stays P old new t was is loses inside fixed =
+    let at = at_stays P old new t (term_low old t) was is loses inside (record { low = refl; high = sym fixed }) in
+    at.low ∙ sym at.high
+
+-- a Boolean stays one
+boolean_stays : (P : List ℤ → Type 0) (old new : List (List ℤ)) (t : Term) → Loses P old new → IsBoolean old t → IsBoolean new t
+boolean_stays P old new (term.Const z) loses bit = bit
+boolean_stays P old new (term.Var k) loses bits = λ j d h.
+    let at : Contains (domain_at new k) (slice_index_or (domain_at new k) j d) = Contains-get_or (domain_at new k) j d h in
+    All-contains IsBit (domain_at old k) _ bits (loses.within k _ at)
+
+base_stays : (P : List ℤ → Type 0) (old new : List (List ℤ)) (b : Base) → Loses P old new → BaseBooleans old b → BaseBooleans new b
+base_stays P old new (base.Lin l) loses bools = bools
+base_stays P old new (base.Clause c) loses bools =
+    ((λ k d h. boolean_stays P old new _ loses (bools.0 k d h)), (λ k d h. boolean_stays P old new _ loses (bools.1 k d h)))
+base_stays P old new (base.Member m) loses bools = bools
+
+booleans_stay : (P : List ℤ → Type 0) (old new : List (List ℤ)) (c : Con) → Loses P old new → ConBooleans old c → ConBooleans new c
+booleans_stay P old new (con.Base b) loses bools = base_stays P old new b loses bools
+booleans_stay P old new (con.Reif b r f) loses bools = (base_stays P old new b loses bools.0, boolean_stays P old new r loses bools.1)
+booleans_stay P old new (con.Times a b c) loses bools = tt
+booleans_stay P old new (con.Abs a b) loses bools = tt
+booleans_stay P old new (con.Div a b c) loses bools = tt
+booleans_stay P old new (con.Mod a b c) loses bools = tt
+booleans_stay P old new (con.Greatest m xs) loses bools = tt
+booleans_stay P old new (con.Least m xs) loses bools = tt
+booleans_stay P old new (con.Element i xs c) loses bools = tt
+booleans_stay P old new (con.AllDiffExcept xs taken) loses bools = tt
+booleans_stay P old new (con.CumulUsed tasks used b) loses bools = tt
+booleans_stay P old new (con.Table xs rows) loses bools = tt
+
+-- a constraint over the variables of a box stays one
+pub suits_after : (P : List ℤ → Type 0) (old new : List (List ℤ)) (c : Con) → Loses P old new → Suits old c → Suits new c
+suits_after P old new c loses suits = record {
+  kept = subst (λ n. ConKept of_call n c) (sym loses.count) suits.kept;
+  booleans = booleans_stay P old new c loses suits.booleans;
+}
+
+pub suits_run : (c d : Con) (old new : Stored) → Runs c old new → d ≡ c → Suits old.box c → Suits new.box d
+suits_run c d old new runs same suits = subst (Suits new.box) (sym same) (suits_after (Holds c) old.box new.box c runs.loses suits)
+
+-- ---- one narrowing of a term
+-- what an assignment with P gives the term stays
+abbrev pub Spares : (ℤ → Type 0) → (List ℤ → Type 0) → Term → List (List ℤ) → Type 0
+Spares Q P t box = (θ : List ℤ) → InBox box θ → P θ → Q (val t θ)
+
+cuts_fall : (Q : ℤ → Type 0) (t : Term) (old new : Stored) (answer : Narrow) → Cuts Q t old new answer → (new.box ≡ old.box) ⊎ (box_size new.box < box_size old.box)
+cuts_fall Q t old new Same cuts = inl (ap (λ (s : Stored). s.box) (cuts.same refl))
+cuts_fall Q t old new Changed cuts = inr (cuts.falls refl)
+cuts_fall Q t old new Empty cuts = inl (ap (λ (s : Stored). s.box) (cuts.empty refl).0)
+
+pub cuts_lose : (Q : ℤ → Type 0) (P : List ℤ → Type 0) (t : Term) (old new : Stored) (answer : Narrow) → Cuts Q t old new answer → Spares Q P t old.box → Loses P old.box new.box
+cuts_lose Q P t old new answer cuts spares = record {
+  count = cuts.count;
+  within = cuts.within;
+  kept = λ θ lies p. cuts.kept θ lies (spares θ lies p);
+  falls = cuts_fall Q t old new answer cuts;
+}
+
+pub cuts_run : (Q : ℤ → Type 0) (c : Con) (t : Term) (old new : Stored) (answer : Narrow) → Cuts Q t old new answer → Spares Q (Holds c) t old.box → Runs c old new
+cuts_run Q c t old new answer cuts spares = record {
+  loses = cuts_lose Q (Holds c) t old new answer cuts spares;
+  saved = cuts.saved;
+  changes = cuts.changes;
+}
+
+-- at Empty no assignment with P is in the box
+pub cuts_none : (Q : ℤ → Type 0) (P : List ℤ → Type 0) (t : Term) (old new : Stored) → Cuts Q t old new Empty → Spares Q P t old.box → HasNone P old.box
+cuts_none Q P t old new cuts spares = λ θ lies p. (cuts.empty refl).1 θ lies (spares θ lies p)
