@@ -1,0 +1,11 @@
+pub mod Products
+pub mod Bounded
+pub mod Places
+pub mod Quotients
+pub mod Steps
+pub mod Bounding
+pub mod Capping
+pub mod Turning
+pub mod Opening
+pub mod Differing
+pub mod Relating

@@ -1,0 +1,4 @@
+pub mod Kinds
+pub mod Signed
+pub mod Capped
+pub mod Different
