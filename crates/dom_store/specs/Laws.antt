@@ -12,7 +12,7 @@ use Rattle.fzn_model.specs.Meaning.{val, Holds}
 use Rattle.fzn_model.specs.declared.base.Base.{Base}
 use Rattle.fzn_model.specs.declared.base.Base.TheVariants as base
 use Rattle.fzn_model.specs.declared.con.Con.TheVariants as con
-use Rattle.fzn_model.specs.Kept.{TermIn, IsBit, ConKept, of_call}
+use Rattle.fzn_model.specs.Kept.{TermIn, IsValue, IsBit, ConKept, of_call}
 use Rattle.fzn_model.specs.Boxes.{IsBox, domain_at, InBox, low_value, high_value}
 use Rattle.dom_store.specs.Stores.{Stored, box_size}
 use Rattle.dom_store.specs.Narrowing.{Loses, HasNone}
@@ -62,6 +62,11 @@ has_between box (term.Var k) v sound inside has = between (domain_at box k) v (s
 pub low_to_high : (box : List (List ℤ)) (t : Term) → IsBox box → TermIn (length box) t → term_low box t ≤ℤ term_high box t
 low_to_high box t sound inside = (has_between box t (term_low box t) sound inside (has_low box t sound inside)).1
 
+-- each value that a term can have is one of the language
+pub has_value : (box : List (List ℤ)) (t : Term) (v : ℤ) → IsBox box → TermIn (length box) t → TermHas box t v → IsValue v
+has_value box (term.Const z) v sound inside has = subst IsValue (sym has) inside
+has_value box (term.Var k) v sound inside (i, within, is) = subst IsValue is ((sound k [] inside).within i v within)
+
 -- ---- narrowings in a row
 pub loses_refl : (P : List ℤ → Type 0) (box : List (List ℤ)) → Loses P box box
 loses_refl P box = record { count = refl; within = λ k z has. has; kept = λ θ lies p. lies; falls = inl refl }
@@ -89,6 +94,10 @@ runs_trans c r s t first then = record {
   saved = then.saved ∙ first.saved;
   changes = omega (arith, first.changes, then.changes);
 }
+
+-- what goes for one promise goes for a stronger one
+pub loses_more : (P Q : List ℤ → Type 0) (old new : List (List ℤ)) → Loses P old new → ((θ : List ℤ) → Q θ → P θ) → Loses Q old new
+loses_more P Q old new loses more = record { count = loses.count; within = loses.within; kept = λ θ lies q. loses.kept θ lies (more θ q); falls = loses.falls }
 
 -- where nothing is left, nothing was
 pub none_before : (P : List ℤ → Type 0) (old new : List (List ℤ)) → Loses P old new → HasNone P new → HasNone P old

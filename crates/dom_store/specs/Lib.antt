@@ -11,3 +11,4 @@ pub mod Ends
 pub mod Laws
 pub mod Passes
 pub mod Answers
+pub mod Made

@@ -15,14 +15,13 @@ use Rattle.dom_store.specs.Bounds.{term_low, IsFixed, IsLookedAt, part_low, sum_
 use Rattle.dom_store.specs.Narrowing.{HasNone}
 use Rattle.dom_store.specs.Cuts.{Cuts}
 use Rattle.dom_store.specs.Strength.{SumIsFixed, OthersFixed, IsAvoided}
-use Rattle.dom_store.specs.Laws.{loses_refl, cuts_lose, cuts_none, fixed_val, has_between}
+use Rattle.dom_store.specs.Laws.{has_value, loses_refl, cuts_lose, cuts_none, fixed_val, has_between}
 use Rattle.dom_store.specs.declared.pass.Passed.TheVariants as passed
 use Rattle.lin_prop.specs.Signed.{signed, signed_all}
 use Rattle.lin_prop.specs.Different.{Differs, Parts, IsApart, PartSays, IsOpenAt, OpenSays, Excludes, LeavesFor}
 use Rattle.lin_prop.specs.declared.open_terms.OpenTerms.TheVariants as terms
 use Rattle.lin_prop.proofs.Bounding.{PartsIn, tail_in, sum_fixed, part_fixed}
 use Rattle.lin_prop.proofs.Quotients.{exact}
-use Rattle.lin_prop.proofs.Steps.{value_of}
 use Rattle.lin_prop.proofs.Turning.{same_all}
 
 tail_fixed : (box : List (List ℤ)) (p : ℤ × Term) (ps : List (ℤ × Term)) (i : ℕ) → OthersFixed box (p ∷ ps) (suc i) → OthersFixed box ps i
@@ -85,7 +84,7 @@ pub apart_zero : (box : List (List ℤ)) (ps : List (ℤ × Term)) (i : ℕ) (d 
 apart_zero box ps i d r one e = avoided_at box ps i d r one (λ some. absurd (some e))
 
 looked_value : (box : List (List ℤ)) (ps : List (ℤ × Term)) (i : ℕ) (d : ℤ × Term) (v : ℤ) → IsBox box → SumKept (length box) ps → i < length ps → IsLookedAt box (get_or ps i d).1 v → IsValue v
-looked_value box ps i d v sound kept h at = value_of box (get_or ps i d).1 v sound (kept.terms i d h) at.has
+looked_value box ps i d v sound kept h at = has_value box (get_or ps i d).1 v sound (kept.terms i d h) at.has
 
 pub apart_excluded : (box : List (List ℤ)) (ps : List (ℤ × Term)) (i : ℕ) (d : ℤ × Term) (r left : ℤ) → IsBox box → SumKept (length box) ps → OpenSays box ps (terms.One i) → (left +ℤ others_low box ps (get_or ps i d)) ≡ r → Excludes (get_or ps i d).0 left → IsApart box ps r
 unfolding Excludes

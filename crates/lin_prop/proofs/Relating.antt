@@ -13,7 +13,7 @@ use Rattle.dom_store.specs.Stores.{Stored}
 use Rattle.dom_store.specs.Narrowing.{Loses}
 use Rattle.dom_store.specs.Bounds.{IsFixed, part_low, part_high, sum_low, sum_high}
 use Rattle.dom_store.specs.Strength.{SumIsFixed, IsChecked}
-use Rattle.dom_store.specs.Laws.{runs_trans, none_before}
+use Rattle.dom_store.specs.Laws.{loses_more, runs_trans, none_before}
 use Rattle.dom_store.specs.declared.pass.Passed.{Passed}
 use Rattle.dom_store.specs.declared.pass.Passed.TheVariants as passed
 use Rattle.lin_prop.specs.Signed.{signed_all}
@@ -29,10 +29,6 @@ same_max x y e = omega (arith, ints, clamps, e)
 
 part_same : (box : List (List ℤ)) (p : ℤ × Term) → IsFixed box p.1 → part_high box p ≡ part_low box p
 part_same box p e = same_max _ _ (ap (λ x. p.0 *ℤ x) (sym e))
-
--- what goes for one promise goes for a stronger one
-loses_for : (P Q : List ℤ → Type 0) (old new : List (List ℤ)) → Loses P old new → ((θ : List ℤ) → Q θ → P θ) → Loses Q old new
-loses_for P Q old new loses more = record { count = loses.count; within = loses.within; kept = λ θ lies q. loses.kept θ lies (more θ q); falls = loses.falls }
 
 at_most_false : (ps : List (ℤ × Term)) (r : ℤ) (θ : List ℤ) → lin_sum ps θ ≤ℤ r → IsAtMost (signed_all false ps) r θ
 unfolding IsAtMost
@@ -62,7 +58,7 @@ high_is box (p ∷ ps) fixed =
 
 pub at_most_relates : (ps : List (ℤ × Term)) (r : ℤ) (old new : Stored) → Lowers (signed_all false ps) r old new → Relates Le ps r old new
 unfolding Relates
-at_most_relates ps r old new lowers = record { loses = loses_for _ _ old.box new.box lowers.loses (at_most_false ps r); saved = lowers.saved; changes = lowers.changes }
+at_most_relates ps r old new lowers = record { loses = loses_more _ _ old.box new.box lowers.loses (at_most_false ps r); saved = lowers.saved; changes = lowers.changes }
 
 low_at : (box : List (List ℤ)) (ps : List (ℤ × Term)) (r : ℤ) → IsLow box (signed_all false ps) r → IsLow box ps r
 low_at box ps r low = subst (λ qs. IsLow box qs r) (same_all ps) low
@@ -87,13 +83,13 @@ equal_down ps r s θ t e = at_most_true ps r s θ t (omega (arith, ints, e))
 
 pub equal_relates : (ps : List (ℤ × Term)) (r : ℤ) (old new : Stored) → Lowers (signed_all false ps) r old new → Relates Eq ps r old new
 unfolding Relates
-equal_relates ps r old new lowers = record { loses = loses_for _ _ old.box new.box lowers.loses (equal_up ps r); saved = lowers.saved; changes = lowers.changes }
+equal_relates ps r old new lowers = record { loses = loses_more _ _ old.box new.box lowers.loses (equal_up ps r); saved = lowers.saved; changes = lowers.changes }
 
 pub equal_relates_more : (ps : List (ℤ × Term)) (r s : ℤ) (old mid new : Stored) → s ≡ neg_ℤ r → Lowers (signed_all false ps) r old mid → Lowers (signed_all true ps) s mid new → Relates Eq ps r old new
 unfolding Relates
 equal_relates_more ps r s old mid new t first second =
-    runs_trans (relation Eq ps r) old mid new (record { loses = loses_for _ _ old.box mid.box first.loses (equal_up ps r); saved = first.saved; changes = first.changes })
-    (record { loses = loses_for _ _ mid.box new.box second.loses (λ θ e. equal_down ps r s θ t e); saved = second.saved; changes = second.changes })
+    runs_trans (relation Eq ps r) old mid new (record { loses = loses_more _ _ old.box mid.box first.loses (equal_up ps r); saved = first.saved; changes = first.changes })
+    (record { loses = loses_more _ _ mid.box new.box second.loses (λ θ e. equal_down ps r s θ t e); saved = second.saved; changes = second.changes })
 
 pub equal_none : (ps : List (ℤ × Term)) (r : ℤ) (old new : List (List ℤ)) → CapSays (signed_all false ps) r old new passed.Empty → Concluded Eq ps r old new passed.Empty
 unfolding Concluded CapSays
@@ -116,7 +112,7 @@ equal_concludes ps r s old mid new passed.Done t sound kept first second low hig
           let most = high_is new.box ps (fixed_parts new.box ps all) in
           omega (arith, ints, sum, up.sum, down.sum, turned_low, most);
     }
-equal_concludes ps r s old mid new passed.Empty t sound kept first second low high = λ θ lies h. none_before (λ φ. lin_sum ps φ ≡ r) old.box mid.box (loses_for _ _ old.box mid.box first.loses (equal_up ps r)) (λ φ lie e. high φ lie (equal_down ps r s φ t e)) θ lies h
+equal_concludes ps r s old mid new passed.Empty t sound kept first second low high = λ θ lies h. none_before (λ φ. lin_sum ps φ ≡ r) old.box mid.box (loses_more _ _ old.box mid.box first.loses (equal_up ps r)) (λ φ lie e. high φ lie (equal_down ps r s φ t e)) θ lies h
 
 pub different_relates : (ps : List (ℤ × Term)) (r : ℤ) (old new : Stored) → Parts ps r old new → Relates Ne ps r old new
 unfolding Relates Differs

@@ -12,7 +12,7 @@ use Rattle.fzn_model.specs.Boxes.{IsBox, InBox}
 use Rattle.dom_store.specs.Stores.{Stored}
 use Rattle.dom_store.specs.Bounds.{term_low, term_high, TermHas, part_low, part_high}
 use Rattle.dom_store.specs.Cuts.{Cuts}
-use Rattle.dom_store.specs.Laws.{low_to_high, val_has, has_low, has_high}
+use Rattle.dom_store.specs.Laws.{has_value, low_to_high, val_has, has_low, has_high}
 use Rattle.lin_prop.specs.Signed.{signed}
 use Rattle.lin_prop.specs.Capped.{PartIsAtMost}
 use Rattle.lin_prop.proofs.Products.{up_mono, down_mono, low_up, low_down, high_up, high_down, dist, dist_minus, turned}
@@ -59,11 +59,6 @@ above_steps n high v steps spare room near most =
     absurd (omega (arith, ints, more, split, other, room.next few, most)))
     (λ h. h)
 
--- each value of a term is one of the language
-pub value_of : (box : List (List ℤ)) (t : Term) (v : ℤ) → IsBox box → TermIn (length box) t → TermHas box t v → IsValue v
-value_of box (term.Const z) v sound inside has = subst IsValue (sym has) inside
-value_of box (term.Var k) v sound inside (i, within, is) = subst IsValue is ((sound k [] inside).within i v within)
-
 near_by : (v low : ℤ) → IsValue v → IsValue low → (v ≤ℤ (low +ℤ pos 2000000)) × ((v -ℤ pos 2000000) ≤ℤ low)
 near_by v low a b = (omega (arith, ints), omega (arith, ints))
 
@@ -86,13 +81,13 @@ same_term false p = refl
 
 spared_above : (box : List (List ℤ)) (t : Term) (f steps spare : ℤ) (θ : List ℤ) → IsBox box → TermIn (length box) t → pos 0 ≤ℤ f → Room f steps spare → InBox box θ → (f *ℤ val t θ) ≤ℤ (spare +ℤ (f *ℤ term_low box t)) → val t θ ≤ℤ (term_low box t +ℤ steps)
 spared_above box t (pos n) steps spare θ sound inside up room lies most =
-    below_steps n (term_low box t) (val t θ) steps spare room (near_by (val t θ) (term_low box t) (value_of box t _ sound inside (val_has box t θ inside lies)) (value_of box t _ sound inside (has_low box t sound inside))).0 most
+    below_steps n (term_low box t) (val t θ) steps spare room (near_by (val t θ) (term_low box t) (has_value box t _ sound inside (val_has box t θ inside lies)) (has_value box t _ sound inside (has_low box t sound inside))).0 most
 spared_above box t (negsuc n) steps spare θ sound inside up room lies most = absurd (omega (arith, ints, up))
 
 spared_below : (box : List (List ℤ)) (t : Term) (f steps spare : ℤ) (θ : List ℤ) → IsBox box → TermIn (length box) t → f <ℤ pos 0 → Room (neg_ℤ f) steps spare → InBox box θ → (f *ℤ val t θ) ≤ℤ (spare +ℤ (f *ℤ term_high box t)) → (term_high box t -ℤ steps) ≤ℤ val t θ
 spared_below box t (pos n) steps spare θ sound inside down room lies most = absurd (omega (arith, ints, down))
 spared_below box t (negsuc n) steps spare θ sound inside down room lies most =
-    above_steps n (term_high box t) (val t θ) steps spare room (near_by (term_high box t) (val t θ) (value_of box t _ sound inside (has_high box t sound inside)) (value_of box t _ sound inside (val_has box t θ inside lies))).1 most
+    above_steps n (term_high box t) (val t θ) steps spare room (near_by (term_high box t) (val t θ) (has_value box t _ sound inside (has_high box t sound inside)) (has_value box t _ sound inside (val_has box t θ inside lies))).1 most
 
 low_is : (box : List (List ℤ)) (p : ℤ × Term) → IsBox box → TermIn (length box) p.1 → pos 0 ≤ℤ p.0 → part_low box p ≡ p.0 *ℤ term_low box p.1
 low_is box p sound inside up = low_up p.0 _ _ up (low_to_high box p.1 sound inside)

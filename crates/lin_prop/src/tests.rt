@@ -301,3 +301,67 @@ fn long_falls_stop_early(rt: HostRuntime) -> Result<(), Fail> {
     assert_eq!(rt; answer, Ran::EarlyStop);
     Ok(())
 }
+
+/// Whether a sum stands to a number.
+fn stands(rel: Rel, sum: i64, r: i64) -> bool {
+    match rel {
+        Rel::Le => sum <= r,
+        Rel::Eq => sum == r,
+        Rel::Ne => sum != r,
+    }
+}
+
+/// Coefficients of `X` and `Y`, a relation, and its number.
+static LISTED: [(i64, i64, Rel, i64); 9] = [
+    (2, 3, Rel::Le, 1),
+    (-2, 3, Rel::Le, -4),
+    (1, -1, Rel::Le, -5),
+    (3, 0, Rel::Le, 4),
+    (2, 3, Rel::Eq, 7),
+    (-3, 2, Rel::Eq, 11),
+    (2, 2, Rel::Eq, 3),
+    (1, 2, Rel::Ne, 4),
+    (0, 1, Rel::Ne, 4),
+];
+
+/// Whether some value of `Y` goes with the value of `X`.
+fn is_supported(a: i64, b: i64, rel: Rel, r: i64, x: i64) -> bool {
+    for y in -2..5 {
+        if stands(rel, a.wrapping_mul(x).wrapping_add(b.wrapping_mul(y)), r) {
+            return true;
+        }
+    }
+    false
+}
+
+/// Whether each value of `X` that has gone from a store, where it may be said to be empty, has no support.
+fn keeps_supported(
+    rt: &impl Abort,
+    store: &Store,
+    empty: bool,
+    row: &(i64, i64, Rel, i64),
+) -> bool {
+    let (a, b, rel, r) = *row;
+    assert!(rt; 0 < store.count());
+    for x in -3..4 {
+        if (empty || !store.has(0, x)) && is_supported(a, b, rel, r, x) {
+            return false;
+        }
+    }
+    true
+}
+
+#[test]
+fn what_goes_has_no_support(rt: HostRuntime) -> Result<(), Fail> {
+    for row in &LISTED {
+        let (a, b, rel, r) = *row;
+        let mut store = store(rt.alloc(), &[(-3, 3), (-2, 4)])?;
+        let parts = [(a, X), (b, Y)];
+        let answer = run(&rt, rt.alloc(), &mut store, rel, &parts, r)?;
+        assert!(rt;
+            keeps_supported(&rt, &store, answer == Ran::Empty, row),
+            "{row:?}"
+        );
+    }
+    Ok(())
+}

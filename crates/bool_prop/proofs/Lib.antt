@@ -1,0 +1,7 @@
+pub mod Comparing
+pub mod Filters
+pub mod Clauses
+pub mod Stepping
+pub mod Runs
+pub mod Members
+pub mod Trials

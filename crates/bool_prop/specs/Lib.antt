@@ -1,0 +1,5 @@
+pub mod Kinds
+pub mod Parts
+pub mod Opens
+pub mod Steps
+pub mod Places

@@ -1,0 +1,6 @@
+pub mod Goals
+pub mod Plans
+pub mod Fixing
+pub mod Kinds
+pub mod Laws
+pub mod Trials
