@@ -58,12 +58,12 @@ cut_none cs g below old new none θ lies p = none θ lies (below_of cs g below �
 owed_strong : (box : List (List ℤ)) (c : Con) → IsBuilt c → IsOwed box c → IsStrong box c
 owed_strong box (con.Base b) built owed = record { kind = owed.kind; checked = owed.checked }
 owed_strong box (con.Reif b r f) built owed = absurd built
-owed_strong box (con.Times a b c) built owed = absurd built
-owed_strong box (con.Abs a b) built owed = absurd built
-owed_strong box (con.Div a b c) built owed = absurd built
-owed_strong box (con.Mod a b c) built owed = absurd built
-owed_strong box (con.Greatest m xs) built owed = absurd built
-owed_strong box (con.Least m xs) built owed = absurd built
+owed_strong box (con.Times a b c) built owed = record { kind = owed.kind; checked = owed.checked }
+owed_strong box (con.Abs a b) built owed = record { kind = owed.kind; checked = owed.checked }
+owed_strong box (con.Div a b c) built owed = record { kind = owed.kind; checked = owed.checked }
+owed_strong box (con.Mod a b c) built owed = record { kind = owed.kind; checked = owed.checked }
+owed_strong box (con.Greatest m xs) built owed = record { kind = owed.kind; checked = owed.checked }
+owed_strong box (con.Least m xs) built owed = record { kind = owed.kind; checked = owed.checked }
 owed_strong box (con.Element i xs c) built owed = absurd built
 owed_strong box (con.AllDiffExcept xs taken) built owed = absurd built
 owed_strong box (con.CumulUsed tasks used b) built owed = absurd built

@@ -6,3 +6,4 @@ use Rattle.prop_engine.specs.declared.any.Kind.TheVariants as kind
 abbrev pub con_of : Kind → Con
 con_of (kind.Lin p) = p
 con_of (kind.Clause p) = p
+con_of (kind.Arith p) = p

@@ -13,6 +13,12 @@ pub record Plan : Type 0 where
 -- the kinds of constraint that the engine takes so far
 abbrev pub IsBuilt : Con → Type 0
 IsBuilt (con.Base b) = ⊤
+IsBuilt (con.Times a b c) = ⊤
+IsBuilt (con.Abs a b) = ⊤
+IsBuilt (con.Div a b c) = ⊤
+IsBuilt (con.Mod a b c) = ⊤
+IsBuilt (con.Greatest m xs) = ⊤
+IsBuilt (con.Least m xs) = ⊤
 IsBuilt c = ⊥
 
 -- the constraints and the goal are over the variables of the box, as where both are of one model

@@ -2,6 +2,7 @@ ghost use Rattle.std.specs.Prelude.{◌≡◌, IfOk};
 ghost use Rattle.dom_store.specs.Propagation.{Suits, Runs, Says};
 ghost use Rattle.prop_engine.specs.Plans.{IsBuilt};
 
+use arith_prop::ArithProp;
 use bool_prop::ClauseProp;
 use dom_store::{Propagator, Ran, Store};
 use fzn_model::{Base, Con};
@@ -14,6 +15,7 @@ use std::marker::Model;
 pub(crate) enum Kind {
     Lin(LinProp),
     Clause(ClauseProp),
+    Arith(ArithProp),
 }
 
 /// A propagator of any kind, which contracts see as its constraint.
@@ -42,6 +44,12 @@ impl AnyProp {
             Con::Base(Base::Clause(_) | Base::Member(_)) => Kind::Clause(ClauseProp::new(
                 alloc, con,
             )?),
+            Con::Times(..)
+            | Con::Abs(..)
+            | Con::Div(..)
+            | Con::Mod(..)
+            | Con::Greatest(..)
+            | Con::Least(..) => Kind::Arith(ArithProp::new(alloc, con)?),
             _ => unreachable!(),
         };
         Ok(AnyProp { kind })
@@ -55,6 +63,7 @@ impl Propagator for AnyProp {
         match &mut self.kind {
             Kind::Lin(propagator) => propagator.run(store),
             Kind::Clause(propagator) => propagator.run(store),
+            Kind::Arith(propagator) => propagator.run(store),
         }
     }
 }

@@ -1,0 +1,7 @@
+pub mod Products
+pub mod Stepping
+pub mod Multiplying
+pub mod Bounding
+pub mod Choosing
+pub mod Sizing
+pub mod Dividing

@@ -1,0 +1,11 @@
+use Rattle.std.proofs.Common.{◌≡◌, arith, to_z, of_z}
+use Rattle.std.specs.Int.{w64}
+use Rattle.std.proofs.lemmas.Int.{ints}
+use Rattle.arith_prop.proofs.Choosing.{raised_above}
+use Rattle.arith_prop.proofs.extremes.raise_above.Goals as goal
+
+pub returns : goal.returns
+returns c =
+    let plain : to_z w64 (of_z w64 c.least-low.result) ≡ c.least-low.result = omega (arith, ints) in
+    raised_above c.args.store.now c.raise_to.new.store c.args.term c.args.other c.least-low.result c.raise_to.result
+    c.least-low.ensures.sound c.requires.other c.least-low.ensures.value (rw plain at c.raise_to.ensures)

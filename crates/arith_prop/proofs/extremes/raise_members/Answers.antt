@@ -1,0 +1,24 @@
+use Rattle.std.proofs.Common.{length, pos}
+use Rattle.std.specs.Prelude.{slice_index_or}
+use Rattle.std.proofs.lemmas.List.{get_or_default}
+use Rattle.fzn_model.specs.declared.term.Term.TheVariants as term
+use Rattle.arith_prop.specs.Extremes.{MembersRaised}
+use Rattle.arith_prop.proofs.Choosing.{members_raised_none, members_raised_more, members_raised_end}
+use Rattle.arith_prop.proofs.extremes.raise_members.Goals as goal
+
+pub loop-term-init : goal.loop-term-init
+loop-term-init c = members_raised_none c.args.m c.args.terms.now c.args.store.now c.count-count.ensures.sound
+
+pub loop-term-preserved : goal.loop-term-preserved
+loop-term-preserved c =
+    let n = c.loop-term.term-index in
+    let xs = c.args.terms.now in
+    let x = slice_index_or xs n (term.Const (pos 0)) in
+    members_raised_more c.args.m xs n x c.args.store.now c.loop-term.store c.raise_above.new.store c.loop-term-test.true (get_or_default xs n (term.Const (pos 0)) x c.loop-term-test.true) c.loop-term.invariant c.in-Done.ensures
+
+pub returns-in-Empty : goal.returns-in-Empty
+returns-in-Empty c =
+    let n = c.loop-term.term-index in
+    let xs = c.args.terms.now in
+    let x = slice_index_or xs n (term.Const (pos 0)) in
+    members_raised_end c.args.m xs n x (MembersRaised c.args.m xs (length xs)) c.args.store.now c.loop-term.store c.raise_above.new.store c.loop-term-test.true (get_or_default xs n (term.Const (pos 0)) x c.loop-term-test.true) c.loop-term.invariant c.in-Empty.ensures

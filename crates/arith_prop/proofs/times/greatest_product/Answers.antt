@@ -1,0 +1,22 @@
+use Rattle.std.proofs.Common.{◌≡◌, arith, to_z, of_z}
+use Rattle.std.specs.Int.{w64}
+use Rattle.std.proofs.lemmas.Int.{ints}
+use Rattle.arith_prop.proofs.Multiplying.{greatest_corner_is, plain}
+use Rattle.arith_prop.proofs.times.greatest_product.Goals as goal
+
+pub returns : goal.returns
+returns c =
+    let p = plain c.args.a.now.0 c.requires.first.0 in
+    let q = plain c.args.a.now.1 c.requires.first.1 in
+    let r = plain c.args.b.now.0 c.requires.second.0 in
+    let s = plain c.args.b.now.1 c.requires.second.1 in
+    let v : to_z w64 (of_z w64 c.product.result) ≡ c.product.result = omega (arith, ints) in
+    let w : to_z w64 (of_z w64 c.product-2.result) ≡ c.product-2.result = omega (arith, ints) in
+    let x : to_z w64 (of_z w64 c.product-3.result) ≡ c.product-3.result = omega (arith, ints) in
+    let y : to_z w64 (of_z w64 c.product-4.result) ≡ c.product-4.result = omega (arith, ints) in
+    let one : to_z w64 (of_z w64 c.max-high.result) ≡ c.max-high.result = omega (arith, ints) in
+    let two : to_z w64 (of_z w64 c.max.result) ≡ c.max.result = omega (arith, ints) in
+    let all : to_z w64 (of_z w64 c.max-2.result) ≡ c.max-2.result = omega (arith, ints) in
+    rw all (greatest_corner_is c.args.a.now c.args.b.now c.product.result c.product-2.result c.product-3.result c.product-4.result c.max-high.result c.max.result c.max-2.result
+    (rw (p, r) at c.product.ensures) (rw (p, s) at c.product-2.ensures) (rw (q, r) at c.product-3.ensures) (rw (q, s) at c.product-4.ensures)
+    (rw (v, w) at c.max-high.ensures.value) (rw (x, y) at c.max.ensures.value) (rw (one, two) at c.max-2.ensures.value))

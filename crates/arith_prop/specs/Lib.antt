@@ -1,0 +1,8 @@
+pub mod Kinds
+pub mod Parts
+pub mod Steps
+pub mod Corners
+pub mod Times
+pub mod Extremes
+pub mod Sizes
+pub mod Division

@@ -1,0 +1,71 @@
+ghost use Rattle.std.specs.Prelude.{◌≡◌, ◌*ℤ◌, length};
+ghost use Rattle.fzn_model.specs.declared.con.Con.TheVariants as con;
+ghost use Rattle.fzn_model.specs.Kept.{IsValue, ConKept, of_call};
+ghost use Rattle.arith_prop.specs.Corners.{least_corner, greatest_corner};
+ghost use Rattle.arith_prop.specs.Steps.{Steps, IsPass};
+ghost use Rattle.arith_prop.specs.Times.{ProductRaised, ProductCapped};
+
+use crate::steps::{cap_to, hull, raise_to};
+use dom_store::{Passed, Store};
+use fzn_model::Term;
+
+/// The product of two values.
+fn product(a: i64, b: i64) -> i64
+    requires first { IsValue a }
+    requires second { IsValue b }
+    ensures { result ≡ a *ℤ b }
+{
+    a * b
+}
+
+/// The least of the four products of the bounds of two ranges.
+#[tactic(auto, unfolding(crate::specs::Corners::least_corner))]
+fn least_product(a: &(i64, i64), b: &(i64, i64)) -> i64
+    requires first { IsValue a.now.0 × IsValue a.now.1 }
+    requires second { IsValue b.now.0 × IsValue b.now.1 }
+    ensures { result ≡ least_corner a.now b.now }
+{
+    let low = product(a.0, b.0).min(product(a.0, b.1));
+    low.min(product(a.1, b.0).min(product(a.1, b.1)))
+}
+
+/// The greatest of the four products of the bounds of two ranges.
+#[tactic(auto, unfolding(crate::specs::Corners::greatest_corner))]
+fn greatest_product(a: &(i64, i64), b: &(i64, i64)) -> i64
+    requires first { IsValue a.now.0 × IsValue a.now.1 }
+    requires second { IsValue b.now.0 × IsValue b.now.1 }
+    ensures { result ≡ greatest_corner a.now b.now }
+{
+    let high = product(a.0, b.0).max(product(a.0, b.1));
+    high.max(product(a.1, b.0).max(product(a.1, b.1)))
+}
+
+/// Raises the result to the least product of the bounds of the factors.
+fn raise_product(store: &mut Store, a: Term, b: Term, c: Term) -> Passed
+    requires { ConKept of_call (length store.old.box) (con.Times a b c) }
+    ensures { Steps (ProductRaised a b c) (con.Times a b c) store.old store.new result }
+{
+    let low = least_product(&hull(store, a), &hull(store, b));
+    raise_to(store, c, low)
+}
+
+/// Caps the result at the greatest product of the bounds of the factors.
+fn cap_product(store: &mut Store, a: Term, b: Term, c: Term) -> Passed
+    requires { ConKept of_call (length store.old.box) (con.Times a b c) }
+    ensures { Steps (ProductCapped a b c) (con.Times a b c) store.old store.new result }
+{
+    let high = greatest_product(&hull(store, a), &hull(store, b));
+    cap_to(store, c, high)
+}
+
+/// One pass over `a * b = c`: narrows the result to the products of the bounds of the factors.
+pub(crate) fn pass_times(store: &mut Store, a: Term, b: Term, c: Term) -> Passed
+    requires { ConKept of_call (length store.old.box) (con.Times a b c) }
+    ensures { IsPass (con.Times a b c) store.old store.new result }
+{
+    match raise_product(store, a, b, c) {
+        Passed::Empty => return Passed::Empty,
+        Passed::Done => {}
+    }
+    cap_product(store, a, b, c)
+}
