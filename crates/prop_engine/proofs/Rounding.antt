@@ -64,7 +64,7 @@ owed_strong box (con.Div a b c) built owed = record { kind = owed.kind; checked 
 owed_strong box (con.Mod a b c) built owed = record { kind = owed.kind; checked = owed.checked }
 owed_strong box (con.Greatest m xs) built owed = record { kind = owed.kind; checked = owed.checked }
 owed_strong box (con.Least m xs) built owed = record { kind = owed.kind; checked = owed.checked }
-owed_strong box (con.Element i xs c) built owed = absurd built
+owed_strong box (con.Element i xs c) built owed = record { kind = owed.kind; checked = owed.checked }
 owed_strong box (con.AllDiffExcept xs taken) built owed = absurd built
 owed_strong box (con.CumulUsed tasks used b) built owed = absurd built
 owed_strong box (con.Table xs rows) built owed = absurd built

@@ -7,3 +7,4 @@ abbrev pub con_of : Kind → Con
 con_of (kind.Lin p) = p
 con_of (kind.Clause p) = p
 con_of (kind.Arith p) = p
+con_of (kind.Element p) = p

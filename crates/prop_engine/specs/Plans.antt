@@ -19,6 +19,7 @@ IsBuilt (con.Div a b c) = ⊤
 IsBuilt (con.Mod a b c) = ⊤
 IsBuilt (con.Greatest m xs) = ⊤
 IsBuilt (con.Least m xs) = ⊤
+IsBuilt (con.Element i xs c) = ⊤
 IsBuilt c = ⊥
 
 -- the constraints and the goal are over the variables of the box, as where both are of one model

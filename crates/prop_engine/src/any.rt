@@ -5,6 +5,7 @@ ghost use Rattle.prop_engine.specs.Plans.{IsBuilt};
 use arith_prop::ArithProp;
 use bool_prop::ClauseProp;
 use dom_store::{Propagator, Ran, Store};
+use element_prop::ElementProp;
 use fzn_model::{Base, Con};
 use lin_prop::LinProp;
 use std::alloc::{AllocError, Global};
@@ -16,6 +17,7 @@ pub(crate) enum Kind {
     Lin(LinProp),
     Clause(ClauseProp),
     Arith(ArithProp),
+    Element(ElementProp),
 }
 
 /// A propagator of any kind, which contracts see as its constraint.
@@ -50,6 +52,7 @@ impl AnyProp {
             | Con::Mod(..)
             | Con::Greatest(..)
             | Con::Least(..) => Kind::Arith(ArithProp::new(alloc, con)?),
+            Con::Element(..) => Kind::Element(ElementProp::new(alloc, con)?),
             _ => unreachable!(),
         };
         Ok(AnyProp { kind })
@@ -64,6 +67,7 @@ impl Propagator for AnyProp {
             Kind::Lin(propagator) => propagator.run(store),
             Kind::Clause(propagator) => propagator.run(store),
             Kind::Arith(propagator) => propagator.run(store),
+            Kind::Element(propagator) => propagator.run(store),
         }
     }
 }
