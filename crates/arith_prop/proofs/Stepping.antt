@@ -1,5 +1,5 @@
 -- Steps of a pass: one narrowing, several in a row, and a whole pass.
-use Rattle.std.proofs.Common.{◌≡◌, List, length, sym, subst, ap, ◌∙◌, arith, inl, inr}
+use Rattle.std.proofs.Common.{◌≡◌, List, length, sym, subst, ◌∙◌}
 use Rattle.std.specs.Prelude.{ℤ}
 use Rattle.fzn_model.specs.declared.con.Con.{Con}
 use Rattle.fzn_model.specs.declared.term.Term.{Term}
@@ -10,21 +10,15 @@ use Rattle.dom_store.specs.Answers.{Narrow}
 use Rattle.dom_store.specs.Answers as narrow
 use Rattle.dom_store.specs.declared.pass.Passed.{Passed}
 use Rattle.dom_store.specs.declared.pass.Passed.TheVariants as passed
-use Rattle.dom_store.specs.Stores.{Stored, box_size}
+use Rattle.dom_store.specs.Stores.{Stored}
 use Rattle.dom_store.specs.Narrowing.{HasNone}
 use Rattle.dom_store.specs.Cuts.{Cuts}
 use Rattle.dom_store.specs.Strength.{IsOwed}
 use Rattle.dom_store.specs.Propagation.{Runs}
-use Rattle.dom_store.specs.Laws.{Spares, cuts_run, cuts_none, runs_refl, runs_trans, none_before, smaller}
+use Rattle.dom_store.specs.Laws.{Spares, cuts_run, cuts_none, runs_refl, runs_trans, none_before, runs_still}
 use Rattle.arith_prop.specs.Steps.{passed_by, Shows, Steps, Moves, IsPass}
 
 -- a box between two equal ones is the same
-pub between_same : (c : Con) (a b d : Stored) → Runs c a b → Runs c b d → d.box ≡ a.box → b.box ≡ a.box
-between_same c a b d first then same =
-    let less = smaller (Holds c) b.box d.box then.loses in
-    let size = ap box_size same in
-    elim first.loses.falls [ inl kept ↦ kept | inr fell ↦ absurd (omega (arith, less, size, fell)) ]
-
 -- the terms of a constraint stay within the box
 pub still_in : (c : Con) (a b : Stored) (t : Term) → Runs c a b → TermIn (length a.box) t → TermIn (length b.box) t
 still_in c a b t runs inside = subst (λ n. TermIn n t) (sym runs.loses.count) inside
@@ -72,7 +66,7 @@ step_none P c s sound none = record { runs = runs_refl c s; sound = sound; shows
 shows_then : (P Q : List (List ℤ) → Type 0) (c : Con) (a b d : Stored) (result : Passed) → Runs c a b → Runs c b d → Shows P c a.box b.box passed.Done → Shows Q c b.box d.box result → Shows (λ box. P box × Q box) c a.box d.box result
 unfolding Shows
 shows_then P Q c a b d passed.Done first then p q = λ same.
-    let before : b.box ≡ a.box = between_same c a b d first then same in
+    let before : b.box ≡ a.box = runs_still c a b d first then same in
     let after : d.box ≡ b.box = same ∙ sym before in
     (subst P (sym after) (p before), q after)
 shows_then P Q c a b d passed.Empty first then p q = none_before (Holds c) a.box b.box first.loses q

@@ -109,6 +109,17 @@ smaller P old new loses = elim loses.falls [ inl same ↦ subst (λ b. box_size 
 pub same_size : (P : List ℤ → Type 0) (old new : List (List ℤ)) → Loses P old new → box_size new ≡ box_size old → new ≡ old
 same_size P old new loses size = elim loses.falls [ inl same ↦ same | inr less ↦ absurd (omega arith) ]
 
+-- where nothing has gone in the end, nothing had in between
+pub still : (P Q : List ℤ → Type 0) (was now then : List (List ℤ)) → Loses P was now → Loses Q now then → then ≡ was → now ≡ was
+still P Q was now then first second e =
+    let a = smaller P was now first in
+    let b = smaller Q now then second in
+    let size : box_size then ≡ box_size was = ap box_size e in
+    same_size P was now first (omega (arith, a, b, size))
+
+pub runs_still : (c : Con) (a b d : Stored) → Runs c a b → Runs c b d → d.box ≡ a.box → b.box ≡ a.box
+runs_still c a b d first second e = still (Holds c) (Holds c) a.box b.box d.box first.loses second.loses e
+
 -- bounds only come closer
 pub low_rises : (P : List ℤ → Type 0) (old new : List (List ℤ)) (t : Term) → IsBox old → IsBox new → Loses P old new → TermIn (length old) t → term_low old t ≤ℤ term_low new t
 low_rises P old new (term.Const z) was is loses inside = omega (arith, ints)

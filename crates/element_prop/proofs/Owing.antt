@@ -11,13 +11,13 @@ use Rattle.dom_store.specs.Stores.{Stored}
 use Rattle.dom_store.specs.Narrowing.{HasNone}
 use Rattle.dom_store.specs.Bounds.{term_low, term_high, IsFixed, IsLookedAt}
 use Rattle.dom_store.specs.Strength.{HullsMeet, ElementIsStrong, IsChecked, IsOwed}
-use Rattle.dom_store.specs.Laws.{has_low, has_between, fixed_val}
+use Rattle.dom_store.specs.Laws.{has_low, has_between, fixed_val, runs_still}
 use Rattle.dom_store.specs.Propagation.{Runs}
 use Rattle.dom_store.specs.Passes.{Concludes}
 use Rattle.dom_store.specs.declared.pass.Passed.{Passed}
 use Rattle.dom_store.specs.declared.pass.Passed.TheVariants as passed
 use Rattle.element_prop.specs.Places.{IsReady, IsIndexed, IsImpossible, MeetsAt, MeetsBefore, IsWithin}
-use Rattle.element_prop.proofs.Passing.{none_at_first, runs_still}
+use Rattle.element_prop.proofs.Passing.{none_at_first}
 
 -- a number of a list's places is one more than a place
 place_at : (v : ℤ) (count : ℕ) → pos 1 ≤ℤ v → v ≤ℤ pos count → (k : ℕ) × (v ≡ pos (k + 1)) × (k < count)
@@ -73,7 +73,7 @@ impossible_none box i xs c none = none
 pub element_concludes : (i : Term) (xs : List Term) (c : Term) (old mid new : Stored) (answer : Passed) → Runs (con.Element i xs c) old mid → Runs (con.Element i xs c) mid new → IsReady mid.box i xs c → IsIndexed mid.box i (length xs)
     → (answer ≡ passed.Done → new.box ≡ mid.box → MeetsBefore mid.box i xs c (length xs)) → (answer ≡ passed.Done → new.box ≡ mid.box → IsWithin mid.box i xs c) → (answer ≡ passed.Empty → IsImpossible mid.box i xs c) → Concludes (con.Element i xs c) old.box new.box answer
 element_concludes i xs c old mid new passed.Done first second ready indexed meets within none = λ e.
-    let same : mid.box ≡ old.box = runs_still i xs c old mid new first second e in
+    let same : mid.box ≡ old.box = runs_still (con.Element i xs c) old mid new first second e in
     let again : new.box ≡ mid.box = e ∙ sym same in
     subst (λ box. IsOwed box (con.Element i xs c)) (sym again) (element_owed mid.box i xs c ready indexed (meets refl again) (within refl again))
 element_concludes i xs c old mid new passed.Empty first second ready indexed meets within none =

@@ -1,15 +1,14 @@
 -- Steps of a pass in a row.
-use Rattle.std.proofs.Common.{◌≡◌, ℕ, ◌+◌, List, length, sym, ap, ◌∙◌, arith, subst}
+use Rattle.std.proofs.Common.{◌≡◌, ℕ, ◌+◌, List, length, sym, ◌∙◌, arith, subst}
 use Rattle.std.specs.Prelude.{ℤ}
 use Rattle.std.proofs.lemmas.Int.{ints}
 use Rattle.fzn_model.specs.declared.term.Term.{Term}
 use Rattle.fzn_model.specs.declared.con.Con.TheVariants as con
 use Rattle.fzn_model.specs.Meaning.{Holds}
 use Rattle.fzn_model.specs.Boxes.{IsBox}
-use Rattle.dom_store.specs.Stores.{Stored, box_size}
-use Rattle.dom_store.specs.Narrowing.{Loses}
+use Rattle.dom_store.specs.Stores.{Stored}
 use Rattle.dom_store.specs.Propagation.{Suits, Runs}
-use Rattle.dom_store.specs.Laws.{runs_refl, runs_trans, none_before, same_size, smaller, term_stays, low_rises, high_falls}
+use Rattle.dom_store.specs.Laws.{runs_refl, runs_trans, none_before, runs_still, term_stays, low_rises, high_falls}
 use Rattle.element_prop.specs.Places.{IsReady, IsIndexed, IsImpossible, MeetsAt, MeetsBefore, IsWithin, IsJoined}
 use Rattle.element_prop.proofs.Meeting.{meets_more}
 
@@ -41,20 +40,9 @@ ready_on i xs c old new runs sound ready = record {
   chosen = term_stays _ old.box new.box c runs.loses ready.chosen;
 }
 
--- where nothing has changed in the end, nothing had in between
-pub still : (P Q : List ℤ → Type 0) (was now then : List (List ℤ)) → Loses P was now → Loses Q now then → then ≡ was → now ≡ was
-still P Q was now then first second e =
-    let a = smaller P was now first in
-    let b = smaller Q now then second in
-    let size : box_size then ≡ box_size was = ap box_size e in
-    same_size P was now first (omega (arith, a, b, size))
-
-pub runs_still : (i : Term) (xs : List Term) (c : Term) (a b d : Stored) → Runs (con.Element i xs c) a b → Runs (con.Element i xs c) b d → d.box ≡ a.box → b.box ≡ a.box
-runs_still i xs c a b d first second e = still _ _ a.box b.box d.box first.loses second.loses e
-
 -- one place more
 pub meets_again : (i : Term) (xs : List Term) (c : Term) (k : ℕ) (a b d : Stored) → Runs (con.Element i xs c) a b → Runs (con.Element i xs c) b d → (b.box ≡ a.box → MeetsBefore a.box i xs c k) → MeetsAt d.box i xs c k → d.box ≡ a.box → MeetsBefore a.box i xs c (k + 1)
-meets_again i xs c k a b d first second before meets e = meets_more a.box i xs c k (before (runs_still i xs c a b d first second e)) (subst (λ box. MeetsAt box i xs c k) e meets)
+meets_again i xs c k a b d first second before meets e = meets_more a.box i xs c k (before (runs_still (con.Element i xs c) a b d first second e)) (subst (λ box. MeetsAt box i xs c k) e meets)
 
 pub indexed_on : (i : Term) (xs : List Term) (c : Term) (old new : Stored) → Runs (con.Element i xs c) old new → IsReady old.box i xs c → IsBox new.box → IsIndexed old.box i (length xs) → IsIndexed new.box i (length xs)
 indexed_on i xs c old new runs ready sound indexed =
@@ -64,23 +52,23 @@ indexed_on i xs c old new runs ready sound indexed =
 
 -- what the first of two steps says of the box at the start
 pub within_first : (i : Term) (xs : List Term) (c : Term) (a b d : Stored) → Runs (con.Element i xs c) a b → Runs (con.Element i xs c) b d → (b.box ≡ a.box → IsWithin a.box i xs c) → d.box ≡ a.box → IsWithin a.box i xs c
-within_first i xs c a b d first second within e = within (runs_still i xs c a b d first second e)
+within_first i xs c a b d first second within e = within (runs_still (con.Element i xs c) a b d first second e)
 
 pub meets_first : (i : Term) (xs : List Term) (c : Term) (k : ℕ) (a b d : Stored) → Runs (con.Element i xs c) a b → Runs (con.Element i xs c) b d → (b.box ≡ a.box → MeetsBefore a.box i xs c k) → d.box ≡ a.box → MeetsBefore a.box i xs c k
-meets_first i xs c k a b d first second meets e = meets (runs_still i xs c a b d first second e)
+meets_first i xs c k a b d first second meets e = meets (runs_still (con.Element i xs c) a b d first second e)
 
 -- what the second says
 pub within_second : (i : Term) (xs : List Term) (c : Term) (a b d : Stored) → Runs (con.Element i xs c) a b → Runs (con.Element i xs c) b d → (d.box ≡ b.box → IsWithin b.box i xs c) → d.box ≡ a.box → IsWithin a.box i xs c
 within_second i xs c a b d first second within e =
-    let same : b.box ≡ a.box = runs_still i xs c a b d first second e in
+    let same : b.box ≡ a.box = runs_still (con.Element i xs c) a b d first second e in
     subst (λ box. IsWithin box i xs c) same (within (e ∙ sym same))
 
 pub meets_second : (i : Term) (xs : List Term) (c : Term) (k : ℕ) (a b d : Stored) → Runs (con.Element i xs c) a b → Runs (con.Element i xs c) b d → (d.box ≡ b.box → MeetsBefore b.box i xs c k) → d.box ≡ a.box → MeetsBefore a.box i xs c k
 meets_second i xs c k a b d first second meets e =
-    let same : b.box ≡ a.box = runs_still i xs c a b d first second e in
+    let same : b.box ≡ a.box = runs_still (con.Element i xs c) a b d first second e in
     subst (λ box. MeetsBefore box i xs c k) same (meets (e ∙ sym same))
 
 pub joined_second : (i : Term) (xs : List Term) (c : Term) (a b d : Stored) → Runs (con.Element i xs c) a b → Runs (con.Element i xs c) b d → (d.box ≡ b.box → IsJoined b.box i xs c) → d.box ≡ a.box → IsJoined a.box i xs c
 joined_second i xs c a b d first second joined e =
-    let same : b.box ≡ a.box = runs_still i xs c a b d first second e in
+    let same : b.box ≡ a.box = runs_still (con.Element i xs c) a b d first second e in
     subst (λ box. IsJoined box i xs c) same (joined (e ∙ sym same))

@@ -8,12 +8,12 @@ use Rattle.fzn_model.specs.Meaning.{val, lin_sum}
 use Rattle.fzn_model.specs.Kept.{TermIn, SumKept}
 use Rattle.fzn_model.specs.Boxes.{IsBox, InBox}
 use Rattle.dom_store.specs.Answers.{Narrow, Empty}
-use Rattle.dom_store.specs.Stores.{Stored, box_size}
+use Rattle.dom_store.specs.Stores.{Stored}
 use Rattle.dom_store.specs.Bounds.{part_low, part_high, sum_low, others_low}
 use Rattle.dom_store.specs.Narrowing.{Loses, HasNone}
 use Rattle.dom_store.specs.Cuts.{Cuts}
 use Rattle.dom_store.specs.Strength.{IsCapped}
-use Rattle.dom_store.specs.Laws.{loses_refl, loses_trans, none_before, cuts_lose, cuts_none, same_size, smaller}
+use Rattle.dom_store.specs.Laws.{loses_refl, loses_trans, none_before, cuts_lose, cuts_none, still}
 use Rattle.dom_store.specs.declared.pass.Passed.TheVariants as passed
 use Rattle.lin_prop.specs.Signed.{signed, signed_all}
 use Rattle.lin_prop.specs.Capped.{IsAtMost, PartIsAtMost, Lowers, IsLow, CapSays}
@@ -89,13 +89,6 @@ CappedBelow on box ps most i = (j : ℕ) → j < i → (d : ℤ × Term) → (pa
 pub capped_none : (on : Bool) (box : List (List ℤ)) (ps : List (ℤ × Term)) (most : ℤ) → CappedBelow on box ps most 0
 unfolding CappedBelow
 capped_none on box ps most j h = absurd (omega arith)
-
-pub still : (P Q : List ℤ → Type 0) (was now then : List (List ℤ)) → Loses P was now → Loses Q now then → then ≡ was → now ≡ was
-still P Q was now then first second e =
-    let a = smaller P was now first in
-    let b = smaller Q now then second in
-    let size : box_size then ≡ box_size was = ap box_size e in
-    same_size P was now first (omega (arith, a, b, size))
 
 -- one part more is capped, where nothing has changed
 pub capped_more : (on : Bool) (was now then : Stored) (ps : List (ℤ × Term)) (i : ℕ) (d : ℤ × Term) (most spare : ℤ) → Lowers (signed_all on ps) most was now → Lowers (signed_all on ps) most now then → i < length ps → (spare +ℤ sum_low was.box (signed_all on ps)) ≡ most → (now.box ≡ was.box → CappedBelow on was.box ps most i) → part_high then.box (signed on (get_or ps i d)) ≤ℤ (spare +ℤ part_low now.box (signed on (get_or ps i d))) → then.box ≡ was.box → CappedBelow on was.box ps most (i + 1)

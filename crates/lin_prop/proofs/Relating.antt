@@ -10,10 +10,9 @@ use Rattle.fzn_model.specs.Meaning.{lin_sum}
 use Rattle.fzn_model.specs.Kept.{SumKept}
 use Rattle.fzn_model.specs.Boxes.{IsBox, InBox}
 use Rattle.dom_store.specs.Stores.{Stored}
-use Rattle.dom_store.specs.Narrowing.{Loses}
 use Rattle.dom_store.specs.Bounds.{IsFixed, part_low, part_high, sum_low, sum_high}
 use Rattle.dom_store.specs.Strength.{SumIsFixed, IsChecked}
-use Rattle.dom_store.specs.Laws.{loses_more, runs_trans, none_before}
+use Rattle.dom_store.specs.Laws.{loses_more, runs_trans, none_before, still}
 use Rattle.dom_store.specs.declared.pass.Passed.{Passed}
 use Rattle.dom_store.specs.declared.pass.Passed.TheVariants as passed
 use Rattle.lin_prop.specs.Signed.{signed_all}
@@ -22,7 +21,6 @@ use Rattle.lin_prop.specs.Different.{Differs, Parts, PartSays}
 use Rattle.lin_prop.specs.Kinds.{relation, Relates, Concluded}
 use Rattle.lin_prop.proofs.Bounding.{sum_fixed}
 use Rattle.lin_prop.proofs.Turning.{same_all, sum_turned, sum_low_turned, raised_of}
-use Rattle.lin_prop.proofs.Capping.{still}
 
 same_max : (x y : ℤ) → y ≡ x → int_max x y ≡ int_min x y
 same_max x y e = omega (arith, ints, clamps, e)

@@ -1,5 +1,5 @@
 -- A round: the goal's cut, and then a run of each propagator.
-use Rattle.std.proofs.Common.{◌≡◌, ◌<◌, ◌≤◌, List, get_or, ℤ, ◌<ℤ◌, refl, sym, ap, ◌∙◌, arith, subst}
+use Rattle.std.proofs.Common.{◌≡◌, ◌<◌, ◌≤◌, List, get_or, ℤ, ◌<ℤ◌, refl, sym, ◌∙◌, arith, subst}
 use Rattle.std.specs.Prelude.{All}
 use Rattle.fzn_model.specs.declared.con.Con.{Con}
 use Rattle.fzn_model.specs.declared.con.Con.TheVariants as con
@@ -8,7 +8,7 @@ use Rattle.dom_store.specs.Stores.{Stored, box_size}
 use Rattle.dom_store.specs.Narrowing.{Loses, HasNone}
 use Rattle.dom_store.specs.Strength.{IsOwed, IsStrong}
 use Rattle.dom_store.specs.Propagation.{Suits, FallsFar}
-use Rattle.dom_store.specs.Laws.{loses_refl, loses_trans, loses_more, none_before, smaller, same_size, suits_after}
+use Rattle.dom_store.specs.Laws.{loses_refl, loses_trans, loses_more, none_before, smaller, same_size, suits_after, still}
 use Rattle.dom_store.specs.declared.pass.Passed.TheVariants as passed
 use Rattle.dom_store.specs.declared.propagator.Ran.{Ran}
 use Rattle.dom_store.specs.declared.propagator.Ran.TheVariants as ran
@@ -68,13 +68,6 @@ owed_strong box (con.Element i xs c) built owed = record { kind = owed.kind; che
 owed_strong box (con.AllDiffExcept xs taken) built owed = absurd built
 owed_strong box (con.CumulUsed tasks used b) built owed = absurd built
 owed_strong box (con.Table xs rows) built owed = absurd built
-
-still : (P Q : List ℤ → Type 0) (was now then : List (List ℤ)) → Loses P was now → Loses Q now then → then ≡ was → now ≡ was
-still P Q was now then first second e =
-    let a = smaller P was now first in
-    let b = smaller Q now then second in
-    let size : box_size then ≡ box_size was = ap box_size e in
-    same_size P was now first (omega (arith, a, b, size))
 
 pub round_says : (cs : List Con) (g : Goal) (below : ℤ) (old mid new : Stored) (answer : Ran) → Cheapens g below old mid → Sweeps cs mid new → CutSays g below old.box mid.box passed.Done → SweepSays cs mid.box new.box answer → All IsBuilt cs → RoundSays (record { cons = cs; goal = g }) below old.box new.box answer
 unfolding CutSays SweepSays RoundSays

@@ -1,5 +1,5 @@
 -- A run of each propagator.
-use Rattle.std.proofs.Common.{◌≡◌, ℕ, ◌+◌, ◌<◌, ◌≤◌, List, [], length, get_or, ℤ, pos, refl, sym, ap, ◌∙◌, arith, subst, below_more}
+use Rattle.std.proofs.Common.{◌≡◌, ℕ, ◌+◌, ◌<◌, ◌≤◌, List, [], length, get_or, ℤ, pos, refl, sym, ◌∙◌, arith, subst, below_more}
 use Rattle.std.specs.Prelude.{All, IfOk, Result, Ok, Err}
 use Rattle.std.proofs.lemmas.List.{get_or_default}
 use Rattle.fzn_model.specs.declared.lin.Rel.TheVariants.{Le}
@@ -7,10 +7,10 @@ use Rattle.fzn_model.specs.declared.base.Base.TheVariants as base
 use Rattle.fzn_model.specs.declared.con.Con.{Con}
 use Rattle.fzn_model.specs.declared.con.Con.TheVariants as con
 use Rattle.fzn_model.specs.Meaning.{Holds}
-use Rattle.dom_store.specs.Stores.{Stored, box_size}
+use Rattle.dom_store.specs.Stores.{Stored}
 use Rattle.dom_store.specs.Strength.{IsOwed}
 use Rattle.dom_store.specs.Propagation.{Suits, Runs, Says}
-use Rattle.dom_store.specs.Laws.{loses_refl, loses_trans, loses_more, none_before, smaller, same_size, suits_after}
+use Rattle.dom_store.specs.Laws.{loses_refl, loses_trans, loses_more, none_before, smaller, still, suits_after}
 use Rattle.dom_store.specs.declared.propagator.Ran.{Ran}
 use Rattle.dom_store.specs.declared.propagator.Ran.TheVariants as ran
 use Rattle.prop_engine.specs.Fixing.{MeetsEach, Sweeps, SweepSays, RunsAt, SaysAt}
@@ -54,17 +54,10 @@ pub owed_none : (cs : List Con) (old now : List (List ℤ)) → OwedBelow cs old
 unfolding OwedBelow
 owed_none cs old now e j h = absurd (omega arith)
 
-still : (cs : List Con) (old now then : Stored) → Sweeps cs old now → Sweeps cs now then → then.box ≡ old.box → now.box ≡ old.box
-still cs old now then first second e =
-    let a = smaller (MeetsEach cs) old.box now.box first.loses in
-    let b = smaller (MeetsEach cs) now.box then.box second.loses in
-    let size : box_size then.box ≡ box_size old.box = ap box_size e in
-    same_size (MeetsEach cs) old.box now.box first.loses (omega (arith, a, b, size))
-
 pub owed_more : (cs : List Con) (at : ℕ) (old now then : Stored) → at < length cs → Sweeps cs old now → RunsAt cs at now then → SaysAt cs at now.box then.box ran.Kept → OwedBelow cs old.box now.box at → OwedBelow cs old.box then.box (at + 1)
 unfolding OwedBelow SaysAt
 owed_more cs at old now then h sweeps runs says owed e =
-    let same : now.box ≡ old.box = still cs old now then sweeps (at_sweeps cs at some_con now then h runs) e in
+    let same : now.box ≡ old.box = still (MeetsEach cs) (MeetsEach cs) old.box now.box then.box sweeps.loses (at_sweeps cs at some_con now then h runs).loses e in
     below_more _ _ (owed same) (λ d. subst (λ b. IsOwed b (get_or cs at d)) e (says d h))
 
 pub sweep_none : (cs : List Con) (at : ℕ) (old now then : Stored) → at < length cs → Sweeps cs old now → SaysAt cs at now.box then.box ran.Empty → SweepSays cs old.box then.box ran.Empty
