@@ -18,7 +18,7 @@ use Rattle.dom_store.specs.Strength.{SumIsFixed, OthersFixed, IsAvoided}
 use Rattle.dom_store.specs.Laws.{has_value, loses_refl, cuts_lose, cuts_none, fixed_val, has_between}
 use Rattle.dom_store.specs.declared.pass.Passed.TheVariants as passed
 use Rattle.lin_prop.specs.Signed.{signed, signed_all}
-use Rattle.lin_prop.specs.Different.{Differs, Parts, IsApart, PartSays, IsOpenAt, OpenSays, Excludes, LeavesFor}
+use Rattle.lin_prop.specs.Different.{Differs, Separates, IsApart, SeparateSays, IsOpenAt, OpenSays, Excludes, LeavesFor}
 use Rattle.lin_prop.specs.declared.open_terms.OpenTerms.TheVariants as terms
 use Rattle.lin_prop.proofs.Bounding.{PartsIn, tail_in, sum_fixed, part_fixed}
 use Rattle.lin_prop.proofs.Quotients.{exact}
@@ -126,44 +126,44 @@ apart_fixed box ps r sound kept all differs = record {
   fixed = λ every e. differs e;
 }
 
-pub parts_refl : (ps : List (ℤ × Term)) (r : ℤ) (s : Stored) → Parts ps r s s
-parts_refl ps r s = record { loses = loses_refl (Differs ps r) s.box; saved = refl; changes = omega arith }
+pub separates_refl : (ps : List (ℤ × Term)) (r : ℤ) (s : Stored) → Separates ps r s s
+separates_refl ps r s = record { loses = loses_refl (Differs ps r) s.box; saved = refl; changes = omega arith }
 
-done_says : (ps : List (ℤ × Term)) (r : ℤ) (old new : List (List ℤ)) → (new ≡ old → IsApart old ps r) → PartSays ps r old new passed.Done
-unfolding PartSays
+done_says : (ps : List (ℤ × Term)) (r : ℤ) (old new : List (List ℤ)) → (new ≡ old → IsApart old ps r) → SeparateSays ps r old new passed.Done
+unfolding SeparateSays
 done_says ps r old new apart e = subst (λ b. IsApart b ps r) (sym e) (apart e)
 
-pub zero_says : (ps : List (ℤ × Term)) (i : ℕ) (d : ℤ × Term) (r : ℤ) (box : List (List ℤ)) → OpenSays box ps (terms.One i) → (get_or ps i d).0 ≡ pos 0 → PartSays ps r box box passed.Done
+pub zero_says : (ps : List (ℤ × Term)) (i : ℕ) (d : ℤ × Term) (r : ℤ) (box : List (List ℤ)) → OpenSays box ps (terms.One i) → (get_or ps i d).0 ≡ pos 0 → SeparateSays ps r box box passed.Done
 zero_says ps i d r box one e = done_says ps r box box (λ same. apart_zero box ps i d r one e)
 
-pub excluded_says : (ps : List (ℤ × Term)) (i : ℕ) (d : ℤ × Term) (r left : ℤ) (box : List (List ℤ)) → IsBox box → SumKept (length box) ps → OpenSays box ps (terms.One i) → LeavesFor box ps i r left → Excludes (get_or ps i d).0 left → PartSays ps r box box passed.Done
+pub excluded_says : (ps : List (ℤ × Term)) (i : ℕ) (d : ℤ × Term) (r left : ℤ) (box : List (List ℤ)) → IsBox box → SumKept (length box) ps → OpenSays box ps (terms.One i) → LeavesFor box ps i r left → Excludes (get_or ps i d).0 left → SeparateSays ps r box box passed.Done
 unfolding LeavesFor
 excluded_says ps i d r left box sound kept one leaves none = done_says ps r box box (λ same. apart_excluded box ps i d r left sound kept one (leaves d) none)
 
-pub avoided_parts : (ps : List (ℤ × Term)) (i : ℕ) (d : ℤ × Term) (r left q : ℤ) (old new : Stored) (answer : Narrow) → IsBox old.box → SumKept (length old.box) ps → OpenSays old.box ps (terms.One i) → LeavesFor old.box ps i r left → (get_or ps i d).0 *ℤ q ≡ left → Cuts (λ z. z ≢ q) (get_or ps i d).1 old new answer → Parts ps r old new
+pub avoided_separates : (ps : List (ℤ × Term)) (i : ℕ) (d : ℤ × Term) (r left q : ℤ) (old new : Stored) (answer : Narrow) → IsBox old.box → SumKept (length old.box) ps → OpenSays old.box ps (terms.One i) → LeavesFor old.box ps i r left → (get_or ps i d).0 *ℤ q ≡ left → Cuts (λ z. z ≢ q) (get_or ps i d).1 old new answer → Separates ps r old new
 unfolding LeavesFor
-avoided_parts ps i d r left q old new answer sound kept one leaves e cuts = record {
+avoided_separates ps i d r left q old new answer sound kept one leaves e cuts = record {
   loses = cuts_lose _ (Differs ps r) (get_or ps i d).1 old new answer cuts (λ θ lies differs. spared old.box ps i d r left q sound kept one e (leaves d) θ lies differs);
   saved = cuts.saved;
   changes = cuts.changes;
 }
 
-pub avoided_none : (ps : List (ℤ × Term)) (i : ℕ) (d : ℤ × Term) (r left q : ℤ) (old new : Stored) → IsBox old.box → SumKept (length old.box) ps → OpenSays old.box ps (terms.One i) → LeavesFor old.box ps i r left → (get_or ps i d).0 *ℤ q ≡ left → Cuts (λ z. z ≢ q) (get_or ps i d).1 old new Empty → PartSays ps r old.box new.box passed.Empty
-unfolding LeavesFor PartSays
+pub avoided_none : (ps : List (ℤ × Term)) (i : ℕ) (d : ℤ × Term) (r left q : ℤ) (old new : Stored) → IsBox old.box → SumKept (length old.box) ps → OpenSays old.box ps (terms.One i) → LeavesFor old.box ps i r left → (get_or ps i d).0 *ℤ q ≡ left → Cuts (λ z. z ≢ q) (get_or ps i d).1 old new Empty → SeparateSays ps r old.box new.box passed.Empty
+unfolding LeavesFor SeparateSays
 avoided_none ps i d r left q old new sound kept one leaves e cuts = cuts_none _ (Differs ps r) (get_or ps i d).1 old new cuts (λ θ lies differs. spared old.box ps i d r left q sound kept one e (leaves d) θ lies differs)
 
-pub avoided_says : (ps : List (ℤ × Term)) (i : ℕ) (d : ℤ × Term) (r left q : ℤ) (old new : List (List ℤ)) → OpenSays old ps (terms.One i) → LeavesFor old ps i r left → (get_or ps i d).0 *ℤ q ≡ left → (IsLookedAt new (get_or ps i d).1 q → ⊥) → PartSays ps r old new passed.Done
+pub avoided_says : (ps : List (ℤ × Term)) (i : ℕ) (d : ℤ × Term) (r left q : ℤ) (old new : List (List ℤ)) → OpenSays old ps (terms.One i) → LeavesFor old ps i r left → (get_or ps i d).0 *ℤ q ≡ left → (IsLookedAt new (get_or ps i d).1 q → ⊥) → SeparateSays ps r old new passed.Done
 unfolding LeavesFor
 avoided_says ps i d r left q old new one leaves e gone = done_says ps r old new (λ same. apart_avoided old ps i d r left q one e (leaves d) (λ at. gone (subst (λ b. IsLookedAt b (get_or ps i d).1 q) (sym same) at)))
 
-pub more_says : (ps : List (ℤ × Term)) (r : ℤ) (box : List (List ℤ)) → OpenSays box ps terms.More → PartSays ps r box box passed.Done
+pub more_says : (ps : List (ℤ × Term)) (r : ℤ) (box : List (List ℤ)) → OpenSays box ps terms.More → SeparateSays ps r box box passed.Done
 more_says ps r box more = done_says ps r box box (λ same. apart_more box ps r (pos 0, Const (pos 0)) more)
 
-pub fixed_says : (ps : List (ℤ × Term)) (r : ℤ) (box : List (List ℤ)) → IsBox box → SumKept (length box) ps → OpenSays box ps terms.None → (sum_low box (signed_all false ps) ≡ r → ⊥) → PartSays ps r box box passed.Done
+pub fixed_says : (ps : List (ℤ × Term)) (r : ℤ) (box : List (List ℤ)) → IsBox box → SumKept (length box) ps → OpenSays box ps terms.None → (sum_low box (signed_all false ps) ≡ r → ⊥) → SeparateSays ps r box box passed.Done
 fixed_says ps r box sound kept all differs = done_says ps r box box (λ same. apart_fixed box ps r sound kept all (λ e. differs (ap (sum_low box) (same_all ps) ∙ e)))
 
-pub none_says : (ps : List (ℤ × Term)) (r : ℤ) (box : List (List ℤ)) → IsBox box → SumKept (length box) ps → OpenSays box ps terms.None → sum_low box (signed_all false ps) ≡ r → PartSays ps r box box passed.Empty
-unfolding PartSays
+pub none_says : (ps : List (ℤ × Term)) (r : ℤ) (box : List (List ℤ)) → IsBox box → SumKept (length box) ps → OpenSays box ps terms.None → sum_low box (signed_all false ps) ≡ r → SeparateSays ps r box box passed.Empty
+unfolding SeparateSays
 none_says ps r box sound kept all e = fixed_none box ps r sound kept all (sym (ap (sum_low box) (same_all ps)) ∙ e)
 
 -- what is left for a part

@@ -17,7 +17,7 @@ use Rattle.dom_store.specs.declared.pass.Passed.{Passed}
 use Rattle.dom_store.specs.declared.pass.Passed.TheVariants as passed
 use Rattle.lin_prop.specs.Signed.{signed_all}
 use Rattle.lin_prop.specs.Capped.{IsAtMost, Lowers, IsLow, CapSays}
-use Rattle.lin_prop.specs.Different.{Differs, Parts, PartSays}
+use Rattle.lin_prop.specs.Different.{Differs, Separates, SeparateSays}
 use Rattle.lin_prop.specs.Kinds.{relation, Relates, Concluded}
 use Rattle.lin_prop.proofs.Bounding.{sum_fixed}
 use Rattle.lin_prop.proofs.Turning.{same_all, sum_turned, sum_low_turned, raised_of}
@@ -112,12 +112,12 @@ equal_concludes ps r s old mid new passed.Done t sound kept first second low hig
     }
 equal_concludes ps r s old mid new passed.Empty t sound kept first second low high = λ θ lies h. none_before (λ φ. lin_sum ps φ ≡ r) old.box mid.box (loses_more _ _ old.box mid.box first.loses (equal_up ps r)) (λ φ lie e. high φ lie (equal_down ps r s φ t e)) θ lies h
 
-pub different_relates : (ps : List (ℤ × Term)) (r : ℤ) (old new : Stored) → Parts ps r old new → Relates Ne ps r old new
+pub different_relates : (ps : List (ℤ × Term)) (r : ℤ) (old new : Stored) → Separates ps r old new → Relates Ne ps r old new
 unfolding Relates Differs
 different_relates ps r old new parts = record { loses = parts.loses; saved = parts.saved; changes = parts.changes }
 
-pub different_concludes : (ps : List (ℤ × Term)) (r : ℤ) (old new : List (List ℤ)) (answer : Passed) → IsBox old → SumKept (length old) ps → PartSays ps r old new answer → Concluded Ne ps r old new answer
-unfolding Concluded PartSays Differs IsChecked
+pub different_concludes : (ps : List (ℤ × Term)) (r : ℤ) (old new : List (List ℤ)) (answer : Passed) → IsBox old → SumKept (length old) ps → SeparateSays ps r old new answer → Concluded Ne ps r old new answer
+unfolding Concluded SeparateSays Differs IsChecked
 different_concludes ps r old new passed.Done sound kept says = λ e.
     let apart = says e in
     record {

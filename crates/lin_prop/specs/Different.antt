@@ -17,7 +17,7 @@ unfoldable pub Differs : List (ℤ × Term) → ℤ → List ℤ → Type 0
 Differs ps r θ = lin_sum ps θ ≢ r
 
 -- only values go with which the sum is the number; the levels stay
-pub record Parts (ps : List (ℤ × Term)) (r : ℤ) (old new : Stored) : Type 0 where
+pub record Separates (ps : List (ℤ × Term)) (r : ℤ) (old new : Stored) : Type 0 where
   pub loses : Loses (Differs ps r) old.box new.box
   pub saved : new.saved ≡ old.saved
   pub changes : old.changes ≤ new.changes
@@ -28,9 +28,9 @@ pub record IsApart (box : List (List ℤ)) (ps : List (ℤ × Term)) (r : ℤ) :
   pub fixed : SumIsFixed box ps → sum_low box ps ≢ r
 
 -- what a pass says: where it removed nothing, the sum is apart; or it is the number under each assignment of the box
-unfoldable pub PartSays : List (ℤ × Term) → ℤ → List (List ℤ) → List (List ℤ) → Passed → Type 0
-PartSays ps r old new passed.Done = new ≡ old → IsApart new ps r
-PartSays ps r old new passed.Empty = HasNone (Differs ps r) old
+unfoldable pub SeparateSays : List (ℤ × Term) → ℤ → List (List ℤ) → List (List ℤ) → Passed → Type 0
+SeparateSays ps r old new passed.Done = new ≡ old → IsApart new ps r
+SeparateSays ps r old new passed.Empty = HasNone (Differs ps r) old
 
 -- the term in a place is open
 unfoldable pub IsOpenAt : List (List ℤ) → List (ℤ × Term) → ℕ → Type 0

@@ -5,7 +5,7 @@ ghost use Rattle.fzn_model.specs.Boxes.{IsBox};
 ghost use Rattle.dom_store.specs.Bounds.{sum_low, IsLookedAt};
 ghost use Rattle.dom_store.specs.Cuts.{Cuts};
 ghost use Rattle.lin_prop.specs.Signed.{signed_all};
-ghost use Rattle.lin_prop.specs.Different.{Parts, PartSays, Excludes, OpenSays, LeavesFor};
+ghost use Rattle.lin_prop.specs.Different.{Separates, SeparateSays, Excludes, OpenSays, LeavesFor};
 ghost use Rattle.lin_prop.specs.declared.open_terms.OpenTerms.TheVariants.{One};
 
 use crate::open_terms::{OpenTerms, which_open};
@@ -103,14 +103,14 @@ fn avoid_value(store: &mut Store, term: Term, value: &i64) -> Narrow
 }
 
 /// Drops the value of the one open term that would make the sum equal to the number.
-#[tactic(auto, using(crate::proofs::Differing::parts_refl, crate::proofs::Differing::zero_says, crate::proofs::Differing::excluded_says))]
+#[tactic(auto, using(crate::proofs::Differing::separates_refl, crate::proofs::Differing::zero_says, crate::proofs::Differing::excluded_says))]
 fn avoid_at(store: &mut Store, parts: &[(i64, Term)], at: usize, r: &i128) -> Passed
     requires kept { SumKept (length store.old.box) parts.now }
     requires number { unsigned_abs r.now ≤ 2 ^ 100 }
     requires open { OpenSays store.old.box parts.now (One at) }
     requires sound { IsBox store.old.box }
-    ensures parts { Parts parts.now r.now store.old store.new }
-    ensures says { PartSays parts.now r.now store.old.box store.new.box result }
+    ensures separates { Separates parts.now r.now store.old store.new }
+    ensures says { SeparateSays parts.now r.now store.old.box store.new.box result }
 {
     let part = &parts[at];
     if part.0 == 0 {
@@ -145,12 +145,12 @@ fn is_number(store: &Store, parts: &[(i64, Term)], r: &i128) -> bool
 }
 
 /// Narrows the last open term of a sum that has to differ from a number.
-#[tactic(auto, using(crate::proofs::Differing::parts_refl, crate::proofs::Differing::fixed_says, crate::proofs::Differing::none_says, crate::proofs::Differing::more_says))]
+#[tactic(auto, using(crate::proofs::Differing::separates_refl, crate::proofs::Differing::fixed_says, crate::proofs::Differing::none_says, crate::proofs::Differing::more_says))]
 pub fn part_sum(store: &mut Store, parts: &[(i64, Term)], r: &i128) -> Passed
     requires kept { SumKept (length store.old.box) parts.now }
     requires number { unsigned_abs r.now ≤ 2 ^ 100 }
-    ensures parts { Parts parts.now r.now store.old store.new }
-    ensures says { PartSays parts.now r.now store.old.box store.new.box result }
+    ensures separates { Separates parts.now r.now store.old store.new }
+    ensures says { SeparateSays parts.now r.now store.old.box store.new.box result }
     ensures sound { IsBox store.old.box }
 {
     witness(store);

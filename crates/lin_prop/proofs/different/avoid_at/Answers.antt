@@ -2,7 +2,7 @@ use Rattle.std.proofs.Common.{◌≡◌, pos, rules, FitsSigned, get_or, ◌*ℤ
 use Rattle.std.specs.Int.{w64, w128}
 use Rattle.std.proofs.lemmas.Int.{to_z-of_z}
 use Rattle.fzn_model.specs.declared.term.Term.TheVariants.{Const}
-use Rattle.lin_prop.proofs.Differing.{excluded_says, avoided_parts, avoided_none, avoided_says}
+use Rattle.lin_prop.proofs.Differing.{excluded_says, avoided_separates, avoided_none, avoided_says}
 use Rattle.lin_prop.proofs.different.avoid_at.Goals as goal
 
 pub returns-in_default-clause-says : goal.returns-in_default-clause-says
@@ -23,6 +23,6 @@ returns-in-Same c =
     let g : FitsSigned w64 c.in-Some.value = search rules in
     let some : (get_or c.args.parts.now c.args.at (pos 0, Const (pos 0))).0 *ℤ c.in-Some.value ≡ c.left_for-left.result = simp to_z-of_z at c.in-Some.ensures.some in
     record {
-      parts = avoided_parts c.args.parts.now c.args.at (pos 0, Const (pos 0)) c.args.r.now _ _ c.args.store.now c.avoid_value.new.store _ c.requires.sound c.requires.kept c.requires.open c.left_for-left.ensures.value some (simp to_z-of_z at c.avoid_value.ensures.cuts);
+      separates = avoided_separates c.args.parts.now c.args.at (pos 0, Const (pos 0)) c.args.r.now _ _ c.args.store.now c.avoid_value.new.store _ c.requires.sound c.requires.kept c.requires.open c.left_for-left.ensures.value some (simp to_z-of_z at c.avoid_value.ensures.cuts);
       says = avoided_says c.args.parts.now c.args.at (pos 0, Const (pos 0)) c.args.r.now _ _ c.args.store.now.box c.avoid_value.new.store.box c.requires.open c.left_for-left.ensures.value some ((simp to_z-of_z at c.avoid_value.ensures.reached) (search rules));
     }
