@@ -17,7 +17,7 @@ use Rattle.fzn_model.specs.Boxes.{IsBox, IsDomain, domain_at, low_value, high_va
 use Rattle.dom_store.specs.Stores.{Stored, box_size}
 use Rattle.dom_store.specs.Narrowing.{AltersOnly}
 use Rattle.dom_store.specs.Cuts.{Cuts}
-use Rattle.dom_store.specs.Ends.{low_in, high_in}
+use Rattle.fzn_model.specs.Ends.{low_in, high_in}
 use Rattle.dom_store.proofs.Facts.{same_low, same_high}
 
 -- what a narrowing to the values with Q does to a domain

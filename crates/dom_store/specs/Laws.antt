@@ -12,60 +12,16 @@ use Rattle.fzn_model.specs.Meaning.{val, Holds}
 use Rattle.fzn_model.specs.declared.base.Base.{Base}
 use Rattle.fzn_model.specs.declared.base.Base.TheVariants as base
 use Rattle.fzn_model.specs.declared.con.Con.TheVariants as con
-use Rattle.fzn_model.specs.Kept.{TermIn, IsValue, IsBit, ConKept, of_call}
+use Rattle.fzn_model.specs.Kept.{TermIn, IsBit, ConKept, of_call}
 use Rattle.fzn_model.specs.Boxes.{IsBox, domain_at, InBox, low_value, high_value}
 use Rattle.dom_store.specs.Stores.{Stored, box_size}
 use Rattle.dom_store.specs.Narrowing.{Loses, HasNone}
 use Rattle.dom_store.specs.Cuts.{Cuts}
-use Rattle.dom_store.specs.Bounds.{term_low, term_high, TermHas, IsFixed, IsAt}
-use Rattle.dom_store.specs.Booleans.{IsBoolean, BaseBooleans, ConBooleans}
-use Rattle.dom_store.specs.Propagation.{Suits, Runs}
-use Rattle.dom_store.specs.Ends.{between, low_in, high_in}
-
--- ---- terms over a box
-pub val_low : (box : List (List ℤ)) (t : Term) (θ : List ℤ) → IsBox box → TermIn (length box) t → InBox box θ → term_low box t ≤ℤ val t θ
-val_low box (term.Const z) θ sound inside lies = omega (arith, ints)
-val_low box (term.Var k) θ sound inside lies = (between (domain_at box k) _ (sound k [] inside) (lies.each k inside)).0
-
-pub val_high : (box : List (List ℤ)) (t : Term) (θ : List ℤ) → IsBox box → TermIn (length box) t → InBox box θ → val t θ ≤ℤ term_high box t
-val_high box (term.Const z) θ sound inside lies = omega (arith, ints)
-val_high box (term.Var k) θ sound inside lies = (between (domain_at box k) _ (sound k [] inside) (lies.each k inside)).1
-
-pub val_has : (box : List (List ℤ)) (t : Term) (θ : List ℤ) → TermIn (length box) t → InBox box θ → TermHas box t (val t θ)
-val_has box (term.Const z) θ inside lies = refl
-val_has box (term.Var k) θ inside lies = lies.each k inside
-
--- a fixed term has its one value under each assignment of the box
-pub fixed_val : (box : List (List ℤ)) (t : Term) (θ : List ℤ) → IsBox box → TermIn (length box) t → IsFixed box t → InBox box θ → val t θ ≡ term_low box t
-fixed_val box t θ sound inside fixed lies =
-    let low : term_low box t ≤ℤ val t θ = val_low box t θ sound inside lies in
-    let high : val t θ ≤ℤ term_high box t = val_high box t θ sound inside lies in
-    let one : term_low box t ≡ term_high box t = fixed in
-    omega (arith, ints)
-
-pub at_val : (box : List (List ℤ)) (t : Term) (v : ℤ) (θ : List ℤ) → IsBox box → TermIn (length box) t → IsAt box t v → InBox box θ → val t θ ≡ v
-at_val box t v θ sound inside at lies = fixed_val box t θ sound inside (at.low ∙ sym at.high) lies ∙ at.low
-
--- the bounds of a term are values of it, and all others lie between them
-pub has_low : (box : List (List ℤ)) (t : Term) → IsBox box → TermIn (length box) t → TermHas box t (term_low box t)
-has_low box (term.Const z) sound inside = refl
-has_low box (term.Var k) sound inside = low_in (domain_at box k) (sound k [] inside)
-
-pub has_high : (box : List (List ℤ)) (t : Term) → IsBox box → TermIn (length box) t → TermHas box t (term_high box t)
-has_high box (term.Const z) sound inside = refl
-has_high box (term.Var k) sound inside = high_in (domain_at box k) (sound k [] inside)
-
-pub has_between : (box : List (List ℤ)) (t : Term) (v : ℤ) → IsBox box → TermIn (length box) t → TermHas box t v → (term_low box t ≤ℤ v) × (v ≤ℤ term_high box t)
-has_between box (term.Const z) v sound inside has = (omega (arith, ints), omega (arith, ints))
-has_between box (term.Var k) v sound inside has = between (domain_at box k) v (sound k [] inside) has
-
-pub low_to_high : (box : List (List ℤ)) (t : Term) → IsBox box → TermIn (length box) t → term_low box t ≤ℤ term_high box t
-low_to_high box t sound inside = (has_between box t (term_low box t) sound inside (has_low box t sound inside)).1
-
--- each value that a term can have is one of the language
-pub has_value : (box : List (List ℤ)) (t : Term) (v : ℤ) → IsBox box → TermIn (length box) t → TermHas box t v → IsValue v
-has_value box (term.Const z) v sound inside has = subst IsValue (sym has) inside
-has_value box (term.Var k) v sound inside (i, within, is) = subst IsValue is ((sound k [] inside).within i v within)
+use Rattle.fzn_model.specs.Bounds.{term_low, term_high, IsFixed, IsAt}
+use Rattle.fzn_model.specs.Booleans.{IsBoolean, BaseBooleans, ConBooleans, Suits}
+use Rattle.dom_store.specs.Propagation.{Runs}
+use Rattle.fzn_model.specs.Ends.{between, low_in, high_in}
+use Rattle.fzn_model.specs.Terms.{low_to_high}
 
 -- ---- narrowings in a row
 pub loses_refl : (P : List ℤ → Type 0) (box : List (List ℤ)) → Loses P box box
@@ -96,8 +52,11 @@ runs_trans c r s t first then = record {
 }
 
 -- what goes for one promise goes for a stronger one
+pub loses_within : (P Q : List ℤ → Type 0) (old new : List (List ℤ)) → Loses P old new → ((θ : List ℤ) → InBox old θ → Q θ → P θ) → Loses Q old new
+loses_within P Q old new loses more = record { count = loses.count; within = loses.within; kept = λ θ lies q. loses.kept θ lies (more θ lies q); falls = loses.falls }
+
 pub loses_more : (P Q : List ℤ → Type 0) (old new : List (List ℤ)) → Loses P old new → ((θ : List ℤ) → Q θ → P θ) → Loses Q old new
-loses_more P Q old new loses more = record { count = loses.count; within = loses.within; kept = λ θ lies q. loses.kept θ lies (more θ q); falls = loses.falls }
+loses_more P Q old new loses more = loses_within P Q old new loses (λ θ lies q. more θ q)
 
 -- where nothing is left, nothing was
 pub none_before : (P : List ℤ → Type 0) (old new : List (List ℤ)) → Loses P old new → HasNone P new → HasNone P old

@@ -3,12 +3,11 @@ pub mod Kept
 pub mod Views
 pub mod Narrowing
 pub mod Cuts
-pub mod Booleans
-pub mod Bounds
 pub mod Strength
 pub mod Propagation
-pub mod Ends
 pub mod Laws
 pub mod Passes
 pub mod Answers
 pub mod Made
+pub mod Opposites
+pub mod Steps

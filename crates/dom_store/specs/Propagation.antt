@@ -1,19 +1,12 @@
 -- What each propagator promises, whatever its kind.
-use Rattle.std.specs.Prelude.{◌≡◌, ◌+◌, ◌≤◌, List, ℤ, length}
+use Rattle.std.specs.Prelude.{◌≡◌, ◌+◌, ◌≤◌, List, ℤ}
 use Rattle.fzn_model.specs.declared.con.Con.{Con}
-use Rattle.fzn_model.specs.Kept.{ConKept, of_call}
 use Rattle.fzn_model.specs.Meaning.{Holds}
 use Rattle.dom_store.specs.declared.propagator.Ran.{Ran}
 use Rattle.dom_store.specs.declared.propagator.Ran.TheVariants as ran
 use Rattle.dom_store.specs.Stores.{Stored, box_size}
 use Rattle.dom_store.specs.Narrowing.{Loses, HasNone}
-use Rattle.dom_store.specs.Booleans.{ConBooleans}
 use Rattle.dom_store.specs.Strength.{IsOwed}
-
--- a constraint over the variables of a box
-pub record Suits (box : List (List ℤ)) (c : Con) : Type 0 where
-  pub kept : ConKept of_call (length box) c
-  pub booleans : ConBooleans box c
 
 -- the domains have at least 100,000 values fewer
 abbrev pub FallsFar : List (List ℤ) → List (List ℤ) → Type 0

@@ -28,14 +28,16 @@ mod store;
 // Terms: variables and constants alike.
 mod terms;
 
-// What each propagator promises, and how several passes make a run.
+// What each propagator promises, how several passes make a run, and steps of a pass.
 mod pass;
 mod propagator;
+mod steps;
 #[cfg(test)]
 mod tests;
 
 pub use int_domain::Narrow;
 pub use pass::{Pass, Passed, pass_on};
 pub use propagator::{Propagator, Ran};
+pub use steps::{cap_to, drop_one, raise_to};
 pub use store::Store;
 pub use terms::{avoid, can_have, cap, greatest, least, raise, settle};

@@ -4,4 +4,12 @@ pub mod Parts
 pub mod Solutions
 pub mod Kept
 pub mod Boxes
+pub mod Opposites
 pub mod Starts
+pub mod Ends
+pub mod Bounds
+pub mod Terms
+pub mod Booleans
+pub mod Rests
+pub mod Named
+pub mod Grouping

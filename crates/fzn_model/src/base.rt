@@ -1,4 +1,4 @@
-ghost use Rattle.std.specs.Prelude.{◌≡◌, ◌↔◌, IsTrue, length};
+ghost use Rattle.std.specs.Prelude.{◌≡◌, ◌↔◌, IsTrue, IfOk, length};
 ghost use Rattle.fzn_model.specs.Meaning.{val, bit, HoldsBase};
 ghost use Rattle.fzn_model.specs.Kept.{TermIn, BaseKept, of_call};
 
@@ -6,6 +6,7 @@ use crate::clause::Clause;
 use crate::lin::Lin;
 use crate::member::Member;
 use crate::term::Term;
+use std::alloc::{AllocError, Global};
 
 /// A constraint that can be reified.
 #[derive(Debug, Drop)]
@@ -26,6 +27,18 @@ impl Base {
             Base::Clause(clause) => clause.holds(values),
             Base::Member(member) => member.holds(values),
         }
+    }
+
+    /// The same constraint.
+    pub fn copy(&self, alloc: Global) -> Result<Base, AllocError>
+        ensures { IfOk result (λ copy. copy ≡ self.now) }
+    {
+        let copy = match self {
+            Base::Lin(lin) => Base::Lin(lin.copy(alloc)?),
+            Base::Clause(clause) => Base::Clause(clause.copy(alloc)?),
+            Base::Member(member) => Base::Member(member.copy(alloc)?),
+        };
+        Ok(copy)
     }
 }
 

@@ -1,9 +1,10 @@
-ghost use Rattle.std.specs.Prelude.{◌≡◌, ◌↔◌, ◌⊎◌, IsTrue, length, pos};
+ghost use Rattle.std.specs.Prelude.{◌≡◌, ◌↔◌, ◌⊎◌, IsTrue, IfOk, length, pos};
 ghost use Rattle.fzn_model.specs.Meaning.{val, HasValue};
 ghost use Rattle.fzn_model.specs.Kept.{TermsIn, ClauseKept};
 
 use crate::list::List;
 use crate::term::Term;
+use std::alloc::{AllocError, Global};
 
 /// A disjunction: some positive literal is 1, or some negative one is 0.
 #[derive(Debug, Drop)]
@@ -28,5 +29,15 @@ impl Clause {
         ensures { IsTrue result ↔ (HasValue self.now.pos (pos 1) values.now ⊎ HasValue self.now.neg (pos 0) values.now) }
     {
         has_value(self.pos.as_slice(), 1, values) || has_value(self.neg.as_slice(), 0, values)
+    }
+
+    /// The same clause.
+    pub fn copy(&self, alloc: Global) -> Result<Clause, AllocError>
+        ensures { IfOk result (λ copy. copy ≡ self.now) }
+    {
+        Ok(Clause {
+            pos: self.pos.copy(alloc)?,
+            neg: self.neg.copy(alloc)?,
+        })
     }
 }

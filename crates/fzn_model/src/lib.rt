@@ -8,7 +8,7 @@
 //! What it promises: [`satisfies`] is true exactly on the solutions, and [`cost_of`] and [`top_of`] are the cost of an
 //! assignment and one more than the greatest cost. The type `Model` keeps that variables are in range, that Booleans
 //! lie within 0..1, and the limits: 100,000 variables, 400,000 constraints, lists of 2,000,000 members, numbers in
-//! -1,000,000..1,000,000. The meaning of each constraint is `Holds` in `specs/Meaning.antt`, one case a kind.
+//! -1,000,000..1,000,000. A [`Rest`] keeps the same with more room, and one label for each constraint. The meaning of each constraint is `Holds` in `specs/Meaning.antt`, one case a kind.
 //!
 //! What it stands on: nothing but std.
 #![tactic(auto)]
@@ -39,6 +39,7 @@ mod goal;
 mod model;
 mod out;
 mod pick;
+mod rest;
 #[cfg(test)]
 mod tests;
 
@@ -54,5 +55,6 @@ pub use member::Member;
 pub use model::{Model, cost_of, satisfies, top_of};
 pub use out::Out;
 pub use pick::{Pick, ValAt, VarBy};
+pub use rest::Rest;
 pub use runs::Runs;
 pub use term::{LARGEST_VALUE, Term};

@@ -1,9 +1,11 @@
-ghost use Rattle.std.specs.Prelude.{◌≡◌, ◌↔◌, ◌*◌, ◌≤◌, ◌^◌, ◌*ℤ◌, IsTrue, length, unsigned_abs};
+ghost use Rattle.std.specs.Prelude.{◌≡◌, ◌↔◌, ◌*◌, ◌≤◌, ◌^◌, ◌*ℤ◌, IsTrue, IfOk, All, map, length, unsigned_abs};
 ghost use Rattle.fzn_model.specs.Meaning.{val, lin_sum, Stands};
 ghost use Rattle.fzn_model.specs.Kept.{IsValue, TermIn, SumKept, LinKept, of_call};
+ghost use Rattle.fzn_model.specs.Opposites.{turned, negated, opposite};
 
 use crate::list::List;
 use crate::term::Term;
+use std::alloc::{AllocError, Global};
 
 /// How a sum stands to a number: at most it, equal to it, or different from it.
 #[derive(Clone, Copy, Debug, PartialEq, Eq)]
@@ -55,6 +57,23 @@ fn sum_of(terms: &[(i64, Term)], values: &[i64]) -> i128
     sum
 }
 
+/// A coefficient with its sign turned, beside its term.
+#[tactic(auto, unfolding(crate::specs::Opposites::turned))]
+fn turned(part: &(i64, Term)) -> (i64, Term)
+    requires { IsValue part.now.0 }
+    ensures { result ≡ turned part.now }
+{
+    (-part.0, part.1)
+}
+
+/// The negative of a sum.
+fn negated(alloc: Global, parts: &[(i64, Term)]) -> Result<Vec<(i64, Term)>, AllocError>
+    requires { All (λ t. IsValue t.0) parts.now }
+    ensures { IfOk result (λ negative. negative.items ≡ negated parts.now) }
+{
+    parts.iter().map(|part| turned(part)).collect(alloc)
+}
+
 impl Lin {
     /// Whether the relation holds under the assignment.
     pub fn holds(&self, values: &[i64]) -> bool
@@ -63,5 +82,43 @@ impl Lin {
     {
         self.rel
             .stands(sum_of(self.terms.as_slice(), values), self.r)
+    }
+
+    /// The same relation.
+    pub fn copy(&self, alloc: Global) -> Result<Lin, AllocError>
+        ensures { IfOk result (λ copy. copy ≡ self.now) }
+    {
+        Ok(Lin {
+            rel: self.rel,
+            terms: self.terms.copy(alloc)?,
+            r: self.r,
+        })
+    }
+
+    /// The relation that holds exactly where this one doesn't. The number may be one further from 0.
+    #[tactic(auto, unfolding(crate::specs::Opposites::opposite))]
+    pub fn opposite(&self, alloc: Global) -> Result<Lin, AllocError>
+        requires factors { All (λ t. IsValue t.0) self.now.terms }
+        requires constant { unsigned_abs self.now.r ≤ 2 ^ 100 }
+        ensures { IfOk result (λ other. other ≡ opposite self.now) }
+    {
+        let other = match self.rel {
+            Rel::Le => Lin {
+                rel: Rel::Le,
+                terms: List::from_vec(negated(alloc, self.terms.as_slice())?),
+                r: -self.r - 1,
+            },
+            Rel::Eq => Lin {
+                rel: Rel::Ne,
+                terms: self.terms.copy(alloc)?,
+                r: self.r,
+            },
+            Rel::Ne => Lin {
+                rel: Rel::Eq,
+                terms: self.terms.copy(alloc)?,
+                r: self.r,
+            },
+        };
+        Ok(other)
     }
 }

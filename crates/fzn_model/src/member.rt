@@ -1,10 +1,11 @@
-ghost use Rattle.std.specs.Prelude.{◌↔◌, IsTrue, length};
+ghost use Rattle.std.specs.Prelude.{◌≡◌, ◌↔◌, IsTrue, IfOk, length};
 ghost use Rattle.fzn_model.specs.Sets.{IsIn};
 ghost use Rattle.fzn_model.specs.Meaning.{val};
 ghost use Rattle.fzn_model.specs.Kept.{TermIn};
 
 use crate::runs::Runs;
 use crate::term::Term;
+use std::alloc::{AllocError, Global};
 
 /// A term that lies in a constant set.
 #[derive(Debug, Drop)]
@@ -20,5 +21,15 @@ impl Member {
         ensures { IsTrue result ↔ IsIn self.now.set (val self.now.x values.now) }
     {
         self.set.contains(self.x.value(values))
+    }
+
+    /// The same term and set.
+    pub fn copy(&self, alloc: Global) -> Result<Member, AllocError>
+        ensures { IfOk result (λ copy. copy ≡ self.now) }
+    {
+        Ok(Member {
+            x: self.x,
+            set: self.set.copy(alloc)?,
+        })
     }
 }

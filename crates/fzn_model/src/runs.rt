@@ -1,7 +1,8 @@
-ghost use Rattle.std.specs.Prelude.{[], ◌≡◌, ◌↔◌, ◌<◌, ◌≤ℤ◌, ℤ, IsTrue, length};
+ghost use Rattle.std.specs.Prelude.{[], ◌≡◌, ◌↔◌, ◌<◌, ◌≤ℤ◌, ℤ, IsTrue, IfOk, length};
 ghost use Rattle.fzn_model.specs.Sets.{IsIn, IsWithin, AreRuns, low_of, high_of};
 
 use crate::list::List;
+use std::alloc::{AllocError, Global};
 use std::marker::Model;
 
 /// A finite set of whole numbers as runs `(low, high)`, both ends within: the runs rise, each low is at most its high,
@@ -105,5 +106,14 @@ impl Runs {
         ensures greatest { (z : ℤ) → IsIn self.now z → z ≤ℤ result }
     {
         greatest(self.runs.as_slice())
+    }
+
+    /// The same set.
+    pub fn copy(&self, alloc: Global) -> Result<Runs, AllocError>
+        ensures { IfOk result (λ copy. copy ≡ self.now) }
+    {
+        Ok(Runs {
+            runs: self.runs.copy(alloc)?,
+        })
     }
 }

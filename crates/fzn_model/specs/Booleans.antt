@@ -1,12 +1,12 @@
 -- Booleans over a box.
-use Rattle.std.specs.Prelude.{List, ℤ, All, ⊤}
+use Rattle.std.specs.Prelude.{List, ℤ, length, All, ⊤}
 use Rattle.fzn_model.specs.declared.term.Term.{Term}
 use Rattle.fzn_model.specs.declared.term.Term.TheVariants as term
 use Rattle.fzn_model.specs.declared.base.Base.{Base}
 use Rattle.fzn_model.specs.declared.base.Base.TheVariants as base
 use Rattle.fzn_model.specs.declared.con.Con.{Con}
 use Rattle.fzn_model.specs.declared.con.Con.TheVariants as con
-use Rattle.fzn_model.specs.Kept.{IsBit}
+use Rattle.fzn_model.specs.Kept.{IsBit, ConKept, of_call}
 use Rattle.fzn_model.specs.Boxes.{domain_at}
 
 -- 0, 1, or a variable that has no other values
@@ -24,3 +24,8 @@ abbrev pub ConBooleans : List (List ℤ) → Con → Type 0
 ConBooleans box (con.Base b) = BaseBooleans box b
 ConBooleans box (con.Reif b r f) = BaseBooleans box b × IsBoolean box r
 ConBooleans box c = ⊤
+
+-- a constraint over the variables of a box
+pub record Suits (box : List (List ℤ)) (c : Con) : Type 0 where
+  pub kept : ConKept of_call (length box) c
+  pub booleans : ConBooleans box c
