@@ -10,9 +10,9 @@ use Rattle.fzn_model.specs.Boxes.{IsBox, InBox}
 use Rattle.dom_store.specs.declared.pass.Passed.{Passed}
 use Rattle.dom_store.specs.declared.pass.Passed.TheVariants as passed
 use Rattle.dom_store.specs.Stores.{Stored}
-use Rattle.dom_store.specs.Bounds.{IsFixed}
+use Rattle.fzn_model.specs.Bounds.{IsFixed}
 use Rattle.dom_store.specs.Strength.{IsOwed, ResultIsFixed, IsChecked}
-use Rattle.dom_store.specs.Laws.{at_val}
+use Rattle.fzn_model.specs.Terms.{at_val}
 use Rattle.arith_prop.specs.Division.{AreOnly, AreLoose}
 use Rattle.arith_prop.specs.Steps.{Moves, IsPass, Is, ValueIs}
 use Rattle.arith_prop.proofs.Stepping.{step_as, step_idle, step_none, pass_one, pass_end}

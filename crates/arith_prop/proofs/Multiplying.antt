@@ -10,9 +10,10 @@ use Rattle.fzn_model.specs.Meaning.{val, Holds}
 use Rattle.fzn_model.specs.Boxes.{IsBox}
 use Rattle.dom_store.specs.declared.pass.Passed.{Passed}
 use Rattle.dom_store.specs.Stores.{Stored}
-use Rattle.dom_store.specs.Bounds.{term_low, term_high}
+use Rattle.fzn_model.specs.Bounds.{term_low, term_high}
 use Rattle.dom_store.specs.Strength.{TimesIsStrong, IsChecked, products_low, products_high}
-use Rattle.dom_store.specs.Laws.{Spares, val_low, val_high, fixed_val}
+use Rattle.fzn_model.specs.Terms.{val_low, val_high, fixed_val}
+use Rattle.dom_store.specs.Laws.{Spares}
 use Rattle.arith_prop.specs.Corners.{hull_of, least_corner, greatest_corner}
 use Rattle.arith_prop.specs.Steps.{Steps, Moves, IsAtLeast, IsAtMost, LowIs, HighIs}
 use Rattle.arith_prop.specs.Times.{ProductRaised, ProductCapped}

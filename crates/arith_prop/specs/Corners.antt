@@ -2,7 +2,7 @@
 use Rattle.std.specs.Prelude.{List, ℤ, ◌*ℤ◌}
 use Rattle.std.specs.Int.{int_min, int_max}
 use Rattle.fzn_model.specs.declared.term.Term.{Term}
-use Rattle.dom_store.specs.Bounds.{term_low, term_high}
+use Rattle.fzn_model.specs.Bounds.{term_low, term_high}
 
 -- all numbers from the least value of a term to its greatest
 abbrev pub hull_of : List (List ℤ) → Term → ℤ × ℤ

@@ -2,7 +2,7 @@
 use Rattle.std.specs.Prelude.{List, ℤ}
 use Rattle.fzn_model.specs.declared.term.Term.{Term}
 use Rattle.fzn_model.specs.Kept.{IsValue}
-use Rattle.dom_store.specs.Bounds.{IsFixed, IsAt}
+use Rattle.fzn_model.specs.Bounds.{IsFixed, IsAt}
 
 -- the term has this one value
 pub record IsOnly (box : List (List ℤ)) (t : Term) (v : ℤ) : Type 0 where

@@ -6,7 +6,7 @@ use Rattle.fzn_model.specs.Meaning.{val, Holds}
 use Rattle.fzn_model.specs.Boxes.{InBox}
 use Rattle.dom_store.specs.declared.pass.Passed.{Passed}
 use Rattle.dom_store.specs.Stores.{Stored}
-use Rattle.dom_store.specs.Bounds.{term_low, term_high}
+use Rattle.fzn_model.specs.Bounds.{term_low, term_high}
 use Rattle.arith_prop.specs.declared.bounds.End.{End}
 use Rattle.arith_prop.specs.declared.bounds.End.TheVariants as end
 use Rattle.arith_prop.specs.Steps.{Steps}

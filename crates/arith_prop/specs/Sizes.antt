@@ -1,7 +1,7 @@
 -- The sizes of the numbers of a range, and what each step for a size reaches.
 use Rattle.std.specs.Prelude.{List, ℤ, ◌≤ℤ◌}
 use Rattle.fzn_model.specs.declared.term.Term.{Term}
-use Rattle.dom_store.specs.Bounds.{term_low, term_high}
+use Rattle.fzn_model.specs.Bounds.{term_low, term_high}
 use Rattle.dom_store.specs.Strength.{sizes_low, sizes_high}
 
 unfoldable pub least_size : ℤ × ℤ → ℤ

@@ -10,7 +10,7 @@ use Rattle.dom_store.specs.declared.pass.Passed.{Passed}
 use Rattle.dom_store.specs.declared.pass.Passed.TheVariants as passed
 use Rattle.dom_store.specs.Stores.{Stored}
 use Rattle.dom_store.specs.Narrowing.{HasNone}
-use Rattle.dom_store.specs.Bounds.{term_low, term_high, IsAt}
+use Rattle.fzn_model.specs.Bounds.{term_low, term_high, IsAt}
 use Rattle.dom_store.specs.Propagation.{Runs}
 use Rattle.dom_store.specs.Passes.{Concludes}
 use Rattle.dom_store.specs.Laws.{Spares}

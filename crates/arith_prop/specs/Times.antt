@@ -1,7 +1,7 @@
 -- What each step for a product reaches.
 use Rattle.std.specs.Prelude.{List, ℤ, ◌≤ℤ◌}
 use Rattle.fzn_model.specs.declared.term.Term.{Term}
-use Rattle.dom_store.specs.Bounds.{term_low, term_high}
+use Rattle.fzn_model.specs.Bounds.{term_low, term_high}
 use Rattle.dom_store.specs.Strength.{products_low, products_high}
 
 -- the result is at least the least product of bounds

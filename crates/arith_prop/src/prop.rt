@@ -39,12 +39,6 @@ impl Model for ArithProp {
     ghost view = { λ p. con_of p.kind };
 }
 
-fn copy(alloc: Global, terms: &[Term]) -> Result<List<Term>, AllocError>
-    ensures { IfOk result (λ copy. copy ≡ terms.now) }
-{
-    Ok(List::from_vec(Vec::from_slice(alloc, terms)?))
-}
-
 impl ArithProp {
     /// The propagator of an arithmetic constraint.
     pub fn new(alloc: Global, con: &Con) -> Result<ArithProp, AllocError>
@@ -56,8 +50,8 @@ impl ArithProp {
             Con::Abs(a, b) => Kind::Abs(*a, *b),
             Con::Div(a, b, c) => Kind::Div(*a, *b, *c),
             Con::Mod(a, b, c) => Kind::Mod(*a, *b, *c),
-            Con::Greatest(m, terms) => Kind::Greatest(*m, copy(alloc, terms.as_slice())?),
-            Con::Least(m, terms) => Kind::Least(*m, copy(alloc, terms.as_slice())?),
+            Con::Greatest(m, terms) => Kind::Greatest(*m, terms.copy(alloc)?),
+            Con::Least(m, terms) => Kind::Least(*m, terms.copy(alloc)?),
             _ => unreachable!(),
         };
         Ok(ArithProp { kind })

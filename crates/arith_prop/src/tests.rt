@@ -1,6 +1,6 @@
 ghost use Rattle.std.specs.Prelude.{◌<◌, IsTrue, All, length};
 ghost use Rattle.fzn_model.specs.Kept.{IsValue, TermIn, TermsIn, DomainKept, ConKept, of_call};
-ghost use Rattle.dom_store.specs.Propagation.{Suits};
+ghost use Rattle.fzn_model.specs.Booleans.{Suits};
 ghost use Rattle.arith_prop.specs.Kinds.{IsArithmetic};
 
 use crate::ArithProp;

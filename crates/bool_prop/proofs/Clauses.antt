@@ -15,10 +15,11 @@ use Rattle.dom_store.specs.declared.pass.Passed.TheVariants as passed
 use Rattle.dom_store.specs.Stores.{Stored}
 use Rattle.dom_store.specs.Narrowing.{HasNone}
 use Rattle.dom_store.specs.Cuts.{Cuts}
-use Rattle.dom_store.specs.Bounds.{term_low, term_high, IsFixed, IsAt, is_open}
+use Rattle.fzn_model.specs.Bounds.{term_low, term_high, IsFixed, IsAt, is_open}
 use Rattle.dom_store.specs.Strength.{HasTrue, ClauseIsStrong, IsChecked, IsOwed}
 use Rattle.dom_store.specs.Propagation.{Runs}
-use Rattle.dom_store.specs.Laws.{has_low, has_between, fixed_val, at_val, cuts_run, cuts_none}
+use Rattle.fzn_model.specs.Terms.{has_low, has_between, fixed_val, at_val}
+use Rattle.dom_store.specs.Laws.{cuts_run, cuts_none}
 use Rattle.bool_prop.specs.Parts.{clause_con}
 use Rattle.bool_prop.specs.Opens.{joined, opens, IsLast, Finds}
 use Rattle.bool_prop.specs.Steps.{Concluded, passed_by}

@@ -14,10 +14,11 @@ use Rattle.dom_store.specs.declared.pass.Passed.{Passed}
 use Rattle.dom_store.specs.declared.pass.Passed.TheVariants as passed
 use Rattle.dom_store.specs.Stores.{Stored}
 use Rattle.dom_store.specs.Cuts.{Cuts}
-use Rattle.dom_store.specs.Bounds.{term_low, term_high, TermHas, IsLookedAt, IsWide}
+use Rattle.fzn_model.specs.Bounds.{term_low, term_high, TermHas, IsLookedAt, IsWide}
 use Rattle.dom_store.specs.Strength.{MemberIsStrong, IsChecked}
 use Rattle.dom_store.specs.Propagation.{Runs}
-use Rattle.dom_store.specs.Laws.{Spares, val_low, val_high, has_between, fixed_val, cuts_run, cuts_none, runs_trans}
+use Rattle.fzn_model.specs.Terms.{val_low, val_high, has_between, fixed_val}
+use Rattle.dom_store.specs.Laws.{Spares, cuts_run, cuts_none, runs_trans}
 use Rattle.bool_prop.specs.Parts.{member_con}
 use Rattle.bool_prop.specs.Places.{IsNext, IsPrevious, NoneFrom, NoneTo}
 use Rattle.bool_prop.specs.Steps.{Shows, Concluded, passed_by, LowIsIn, HighIsIn, ValueIsIn, ValuesAreIn, EachIsIn}

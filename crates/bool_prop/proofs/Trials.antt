@@ -7,9 +7,9 @@ use Rattle.fzn_model.specs.declared.term.Term.{Term}
 use Rattle.fzn_model.specs.declared.term.Term.TheVariants as term
 use Rattle.fzn_model.specs.Kept.{TermIn}
 use Rattle.fzn_model.specs.Boxes.{IsBox, domain_at}
-use Rattle.dom_store.specs.Bounds.{term_low, term_high}
-use Rattle.dom_store.specs.Booleans.{IsBoolean}
-use Rattle.dom_store.specs.Ends.{between}
+use Rattle.fzn_model.specs.Bounds.{term_low, term_high}
+use Rattle.fzn_model.specs.Booleans.{IsBoolean}
+use Rattle.fzn_model.specs.Ends.{between}
 
 -- a term whose bounds are bits is a Boolean
 pub boolean_between : (box : List (List ℤ)) (t : Term) → IsBox box → TermIn (length box) t → pos 0 ≤ℤ term_low box t → term_high box t ≤ℤ pos 1 → IsBoolean box t

@@ -5,7 +5,7 @@ use Rattle.fzn_model.specs.declared.clause.Clause.{Clause}
 use Rattle.fzn_model.specs.Meaning.{Holds}
 use Rattle.fzn_model.specs.Kept.{TermIn}
 use Rattle.dom_store.specs.Narrowing.{HasNone}
-use Rattle.dom_store.specs.Bounds.{IsAt, is_open, open_count}
+use Rattle.fzn_model.specs.Bounds.{IsAt, is_open, open_count}
 use Rattle.dom_store.specs.Laws.{Spares}
 use Rattle.dom_store.specs.Strength.{HasTrue}
 use Rattle.bool_prop.specs.Parts.{clause_con}

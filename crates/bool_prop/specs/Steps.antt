@@ -9,7 +9,7 @@ use Rattle.dom_store.specs.declared.pass.Passed.{Passed}
 use Rattle.dom_store.specs.declared.pass.Passed.TheVariants as passed
 use Rattle.dom_store.specs.Narrowing.{HasNone}
 use Rattle.dom_store.specs.Passes.{Concludes}
-use Rattle.dom_store.specs.Bounds.{term_low, term_high, IsLookedAt, IsWide}
+use Rattle.fzn_model.specs.Bounds.{term_low, term_high, IsLookedAt, IsWide}
 
 -- what a whole pass says
 unfoldable pub Concluded : Con → List (List ℤ) → List (List ℤ) → Passed → Type 0

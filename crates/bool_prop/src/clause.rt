@@ -1,7 +1,7 @@
 ghost use Rattle.std.specs.Prelude.{◌≡◌, ◌↔◌, ◌+◌, ◌<◌, All, Any, IsTrue, length, pos};
 ghost use Rattle.fzn_model.specs.Boxes.{IsBox};
 ghost use Rattle.fzn_model.specs.Kept.{TermIn, ClauseKept};
-ghost use Rattle.dom_store.specs.Bounds.{IsAt, is_open};
+ghost use Rattle.fzn_model.specs.Bounds.{IsAt, is_open};
 ghost use Rattle.dom_store.specs.Strength.{HasTrue};
 ghost use Rattle.dom_store.specs.Propagation.{Runs};
 ghost use Rattle.bool_prop.specs.Parts.{clause_of, clause_con};

@@ -23,7 +23,6 @@ mod member;
 mod places;
 
 // The propagator of both, with constraints of its own.
-mod copies;
 mod prop;
 #[cfg(test)]
 mod tests;

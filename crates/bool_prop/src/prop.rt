@@ -1,12 +1,12 @@
 ghost use Rattle.std.specs.Prelude.{◌≡◌, IfOk};
-ghost use Rattle.dom_store.specs.Propagation.{Suits, Runs, Says};
+ghost use Rattle.fzn_model.specs.Booleans.{Suits};
+ghost use Rattle.dom_store.specs.Propagation.{Runs, Says};
 ghost use Rattle.dom_store.specs.Passes.{Concludes};
 ghost use Rattle.bool_prop.specs.Kinds.{IsClausal};
 ghost use Rattle.bool_prop.specs.Parts.{con_of};
 ghost use Rattle.bool_prop.specs.Steps.{Concluded};
 
 use crate::clause::pass_clause;
-use crate::copies::{copy_clause, copy_member};
 use crate::member::pass_member;
 use dom_store::{Pass, Passed, Propagator, Ran, Store, pass_on};
 use fzn_model::{Base, Clause, Con, Member};
@@ -54,8 +54,8 @@ impl ClauseProp {
         ensures { IfOk result (λ p. p ≡ con.now) }
     {
         let kind = match con {
-            Con::Base(Base::Clause(clause)) => Kind::Clause(copy_clause(alloc, clause)?),
-            Con::Base(Base::Member(member)) => Kind::Member(copy_member(alloc, member)?),
+            Con::Base(Base::Clause(clause)) => Kind::Clause(clause.copy(alloc)?),
+            Con::Base(Base::Member(member)) => Kind::Member(member.copy(alloc)?),
             _ => unreachable!(),
         };
         Ok(ClauseProp { kind })

@@ -1,8 +1,7 @@
 ghost use Rattle.std.specs.Prelude.{◌<◌, IsTrue, All, length};
 ghost use Rattle.fzn_model.specs.Sets.{AreRuns};
 ghost use Rattle.fzn_model.specs.Kept.{IsValue, TermIn, TermsIn, DomainKept, ConKept, of_call};
-ghost use Rattle.dom_store.specs.Booleans.{IsBoolean};
-ghost use Rattle.dom_store.specs.Propagation.{Suits};
+ghost use Rattle.fzn_model.specs.Booleans.{IsBoolean, Suits};
 ghost use Rattle.bool_prop.specs.Kinds.{IsClausal};
 ghost use Rattle.bool_prop.specs.Parts.{clause_con, member_con};
 

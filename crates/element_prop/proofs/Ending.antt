@@ -9,9 +9,9 @@ use Rattle.fzn_model.specs.declared.term.Term.TheVariants as term
 use Rattle.fzn_model.specs.Meaning.{val}
 use Rattle.fzn_model.specs.Kept.{TermIn}
 use Rattle.fzn_model.specs.Boxes.{IsBox}
-use Rattle.dom_store.specs.Bounds.{term_low, term_high, TermHas, IsFixed}
+use Rattle.fzn_model.specs.Bounds.{term_low, term_high, TermHas, IsFixed}
 use Rattle.dom_store.specs.Strength.{IsPlace}
-use Rattle.dom_store.specs.Laws.{val_low, val_high, val_has, has_low, low_to_high, fixed_val}
+use Rattle.fzn_model.specs.Terms.{val_low, val_high, val_has, has_low, low_to_high, fixed_val}
 use Rattle.element_prop.specs.Between.{LiesBetween, Bounded}
 use Rattle.element_prop.specs.Places.{member, IsReady, IsIndexed, IsLeastBefore, IsMostBefore, IsWithin, IsJoined}
 use Rattle.element_prop.proofs.Meeting.{unhad_first, unhad_last}

@@ -9,7 +9,7 @@ use Rattle.fzn_model.specs.Kept.{TermIn}
 use Rattle.fzn_model.specs.Boxes.{IsBox}
 use Rattle.dom_store.specs.Answers.{Narrow, Empty}
 use Rattle.dom_store.specs.Stores.{Stored}
-use Rattle.dom_store.specs.Bounds.{term_low}
+use Rattle.fzn_model.specs.Bounds.{term_low}
 use Rattle.dom_store.specs.Cuts.{Cuts}
 use Rattle.dom_store.specs.Propagation.{Runs}
 use Rattle.dom_store.specs.Laws.{loses_trans, none_before, cuts_lose, cuts_none, low_rises}

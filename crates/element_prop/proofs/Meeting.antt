@@ -12,11 +12,12 @@ use Rattle.fzn_model.specs.Kept.{TermIn}
 use Rattle.fzn_model.specs.Boxes.{IsBox, InBox}
 use Rattle.dom_store.specs.Answers.{Narrow, Empty}
 use Rattle.dom_store.specs.Stores.{Stored}
-use Rattle.dom_store.specs.Bounds.{term_low, term_high, TermHas, IsLookedAt}
+use Rattle.fzn_model.specs.Bounds.{term_low, term_high, TermHas, IsLookedAt}
 use Rattle.dom_store.specs.Cuts.{Cuts}
 use Rattle.dom_store.specs.Propagation.{Runs}
 use Rattle.dom_store.specs.Strength.{HullsMeet}
-use Rattle.dom_store.specs.Laws.{has_between, has_high, low_rises, high_falls, low_to_high, term_stays, val_low, val_high, cuts_run, cuts_none}
+use Rattle.fzn_model.specs.Terms.{has_between, has_high, low_to_high, val_low, val_high}
+use Rattle.dom_store.specs.Laws.{low_rises, high_falls, term_stays, cuts_run, cuts_none}
 use Rattle.element_prop.specs.Places.{member, IsReady, IsImpossible, AreApart, MeetsAt, MeetsBefore}
 use Rattle.element_prop.specs.Found.{IsFound, IsLastMet}
 use Rattle.element_prop.specs.declared.places.Found.{Found}

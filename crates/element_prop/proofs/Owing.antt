@@ -9,9 +9,10 @@ use Rattle.fzn_model.specs.declared.con.Con.TheVariants as con
 use Rattle.fzn_model.specs.Meaning.{Holds}
 use Rattle.dom_store.specs.Stores.{Stored}
 use Rattle.dom_store.specs.Narrowing.{HasNone}
-use Rattle.dom_store.specs.Bounds.{term_low, term_high, IsFixed, IsLookedAt}
+use Rattle.fzn_model.specs.Bounds.{term_low, term_high, IsFixed, IsLookedAt}
 use Rattle.dom_store.specs.Strength.{HullsMeet, ElementIsStrong, IsChecked, IsOwed}
-use Rattle.dom_store.specs.Laws.{has_low, has_between, fixed_val, runs_still}
+use Rattle.fzn_model.specs.Terms.{has_low, has_between, fixed_val}
+use Rattle.dom_store.specs.Laws.{runs_still}
 use Rattle.dom_store.specs.Propagation.{Runs}
 use Rattle.dom_store.specs.Passes.{Concludes}
 use Rattle.dom_store.specs.declared.pass.Passed.{Passed}

@@ -7,7 +7,8 @@ use Rattle.fzn_model.specs.declared.con.Con.TheVariants as con
 use Rattle.fzn_model.specs.Meaning.{Holds}
 use Rattle.fzn_model.specs.Boxes.{IsBox}
 use Rattle.dom_store.specs.Stores.{Stored}
-use Rattle.dom_store.specs.Propagation.{Suits, Runs}
+use Rattle.fzn_model.specs.Booleans.{Suits}
+use Rattle.dom_store.specs.Propagation.{Runs}
 use Rattle.dom_store.specs.Laws.{runs_refl, runs_trans, none_before, runs_still, term_stays, low_rises, high_falls}
 use Rattle.element_prop.specs.Places.{IsReady, IsIndexed, IsImpossible, MeetsAt, MeetsBefore, IsWithin, IsJoined}
 use Rattle.element_prop.proofs.Meeting.{meets_more}

@@ -1,7 +1,7 @@
 -- What is found of a place.
 use Rattle.std.specs.Prelude.{◌≡◌, ℕ, ◌+◌, List, ℤ, pos, ⊤}
 use Rattle.fzn_model.specs.declared.term.Term.{Term}
-use Rattle.dom_store.specs.Bounds.{term_high, TermHas, IsLookedAt}
+use Rattle.fzn_model.specs.Bounds.{term_high, TermHas, IsLookedAt}
 use Rattle.dom_store.specs.Strength.{HullsMeet}
 use Rattle.element_prop.specs.declared.places.Found.{Found}
 use Rattle.element_prop.specs.declared.places.Found.TheVariants as found

@@ -6,7 +6,7 @@ use Rattle.fzn_model.specs.declared.con.Con.TheVariants as con
 use Rattle.fzn_model.specs.Meaning.{Holds}
 use Rattle.fzn_model.specs.Kept.{TermIn}
 use Rattle.fzn_model.specs.Boxes.{IsBox}
-use Rattle.dom_store.specs.Bounds.{term_low, term_high, IsFixed, IsLookedAt}
+use Rattle.fzn_model.specs.Bounds.{term_low, term_high, IsFixed, IsLookedAt}
 use Rattle.dom_store.specs.Strength.{HullsMeet, IsPlace}
 use Rattle.dom_store.specs.Narrowing.{HasNone}
 

@@ -2,7 +2,7 @@
 ghost use Rattle.std.specs.Prelude.{◌≡◌, ◌≤ℤ◌, length};
 ghost use Rattle.fzn_model.specs.Kept.{TermIn};
 ghost use Rattle.fzn_model.specs.Boxes.{IsBox};
-ghost use Rattle.dom_store.specs.Bounds.{term_low, term_high};
+ghost use Rattle.fzn_model.specs.Bounds.{term_low, term_high};
 ghost use Rattle.dom_store.specs.Cuts.{Cuts};
 ghost use Rattle.element_prop.specs.Between.{Limits, LiesNever};
 

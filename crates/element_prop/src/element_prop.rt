@@ -24,13 +24,6 @@ impl Model for ElementProp {
     ghost view = { λ p. con.Element p.index p.members p.chosen };
 }
 
-/// The same terms.
-fn copy(alloc: Global, terms: &List<Term>) -> Result<List<Term>, AllocError>
-    ensures { IfOk result (λ copy. copy ≡ terms.now) }
-{
-    Ok(List::from_vec(Vec::from_slice(alloc, terms.as_slice())?))
-}
-
 impl ElementProp {
     /// The propagator for an element of a list, `Con::Element(..)`.
     pub fn new(alloc: Global, con: &Con) -> Result<ElementProp, AllocError>
@@ -42,7 +35,7 @@ impl ElementProp {
         };
         Ok(ElementProp {
             index: *index,
-            members: copy(alloc, members)?,
+            members: members.copy(alloc)?,
             chosen: *chosen,
         })
     }

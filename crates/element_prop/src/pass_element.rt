@@ -1,7 +1,8 @@
 //! A whole pass.
 ghost use Rattle.std.specs.Prelude.{◌≡◌, length};
 ghost use Rattle.fzn_model.specs.declared.con.Con.TheVariants as con;
-ghost use Rattle.dom_store.specs.Propagation.{Suits, Runs};
+ghost use Rattle.fzn_model.specs.Booleans.{Suits};
+ghost use Rattle.dom_store.specs.Propagation.{Runs};
 ghost use Rattle.dom_store.specs.Passes.{Concludes};
 ghost use Rattle.element_prop.specs.Places.{IsReady, IsIndexed, IsImpossible, MeetsBefore, IsWithin, IsJoined};
 

@@ -3,7 +3,7 @@ ghost use Rattle.std.specs.Prelude.{◌≡◌, ◌≢◌, ◌≤◌, ◌<◌, �
 ghost use Rattle.fzn_model.specs.declared.con.Con.TheVariants as con;
 ghost use Rattle.fzn_model.specs.Kept.{TermIn};
 ghost use Rattle.fzn_model.specs.Boxes.{IsBox};
-ghost use Rattle.dom_store.specs.Bounds.{term_low, term_high, IsLookedAt};
+ghost use Rattle.fzn_model.specs.Bounds.{term_low, term_high, IsLookedAt};
 ghost use Rattle.dom_store.specs.Cuts.{Cuts};
 ghost use Rattle.dom_store.specs.Propagation.{Runs};
 ghost use Rattle.dom_store.specs.Strength.{HullsMeet};

@@ -4,8 +4,8 @@ use Rattle.std.specs.Prelude.{Bool, true, false}
 use Rattle.fzn_model.specs.declared.term.Term.{Term}
 use Rattle.fzn_model.specs.Kept.{TermIn}
 use Rattle.fzn_model.specs.Boxes.{IsBox}
-use Rattle.dom_store.specs.Bounds.{term_low, term_high, part_low}
-use Rattle.dom_store.specs.Laws.{low_to_high}
+use Rattle.fzn_model.specs.Bounds.{term_low, term_high, part_low}
+use Rattle.fzn_model.specs.Terms.{low_to_high}
 use Rattle.lin_prop.specs.Signed.{signed}
 use Rattle.lin_prop.proofs.Products.{low_up, low_down}
 

@@ -7,9 +7,10 @@ use Rattle.fzn_model.specs.declared.term.Term.{Term}
 use Rattle.fzn_model.specs.Meaning.{val, lin_sum}
 use Rattle.fzn_model.specs.Kept.{TermIn}
 use Rattle.fzn_model.specs.Boxes.{IsBox, InBox}
-use Rattle.dom_store.specs.Bounds.{term_low, term_high, IsFixed, part_low, part_high, sum_low, others_low}
+use Rattle.fzn_model.specs.Bounds.{term_low, term_high, IsFixed, part_low, part_high, sum_low, others_low}
 use Rattle.dom_store.specs.Narrowing.{Loses}
-use Rattle.dom_store.specs.Laws.{low_to_high, val_low, val_high, low_rises, high_falls, fixed_val}
+use Rattle.fzn_model.specs.Terms.{low_to_high, val_low, val_high, fixed_val}
+use Rattle.dom_store.specs.Laws.{low_rises, high_falls}
 use Rattle.lin_prop.proofs.Products.{up_mono, down_mono, low_up, low_down, high_up, high_down}
 
 -- each part's term is over the variables

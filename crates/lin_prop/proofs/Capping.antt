@@ -9,7 +9,7 @@ use Rattle.fzn_model.specs.Kept.{TermIn, SumKept}
 use Rattle.fzn_model.specs.Boxes.{IsBox, InBox}
 use Rattle.dom_store.specs.Answers.{Narrow, Empty}
 use Rattle.dom_store.specs.Stores.{Stored}
-use Rattle.dom_store.specs.Bounds.{part_low, part_high, sum_low, others_low}
+use Rattle.fzn_model.specs.Bounds.{part_low, part_high, sum_low, others_low}
 use Rattle.dom_store.specs.Narrowing.{Loses, HasNone}
 use Rattle.dom_store.specs.Cuts.{Cuts}
 use Rattle.dom_store.specs.Strength.{IsCapped}

@@ -11,11 +11,12 @@ use Rattle.fzn_model.specs.Kept.{IsValue, TermIn, SumKept}
 use Rattle.fzn_model.specs.Boxes.{IsBox, InBox}
 use Rattle.dom_store.specs.Answers.{Narrow, Empty}
 use Rattle.dom_store.specs.Stores.{Stored}
-use Rattle.dom_store.specs.Bounds.{term_low, IsFixed, IsLookedAt, part_low, sum_low, others_low}
+use Rattle.fzn_model.specs.Bounds.{term_low, IsFixed, IsLookedAt, part_low, sum_low, others_low}
 use Rattle.dom_store.specs.Narrowing.{HasNone}
 use Rattle.dom_store.specs.Cuts.{Cuts}
 use Rattle.dom_store.specs.Strength.{SumIsFixed, OthersFixed, IsAvoided}
-use Rattle.dom_store.specs.Laws.{has_value, loses_refl, cuts_lose, cuts_none, fixed_val, has_between}
+use Rattle.fzn_model.specs.Terms.{has_value, fixed_val, has_between}
+use Rattle.dom_store.specs.Laws.{loses_refl, cuts_lose, cuts_none}
 use Rattle.dom_store.specs.declared.pass.Passed.TheVariants as passed
 use Rattle.lin_prop.specs.Signed.{signed, signed_all}
 use Rattle.lin_prop.specs.Different.{Differs, Separates, IsApart, SeparateSays, IsOpenAt, OpenSays, Excludes, LeavesFor}

@@ -3,7 +3,7 @@ use Rattle.std.proofs.Common.{◌≡◌, ℕ, ◌+◌, ◌<◌, ◌≤◌, inl, 
 use Rattle.std.proofs.lemmas.Bool.{cases_lt}
 use Rattle.std.proofs.lemmas.List.{get_or_default}
 use Rattle.fzn_model.specs.declared.term.Term.{Term}
-use Rattle.dom_store.specs.Bounds.{IsFixed}
+use Rattle.fzn_model.specs.Bounds.{IsFixed}
 use Rattle.dom_store.specs.Strength.{SumIsFixed, OthersFixed}
 use Rattle.lin_prop.specs.declared.open_terms.OpenTerms.TheVariants as terms
 use Rattle.lin_prop.specs.Different.{IsOpenAt, OpenSays, FixedBetween}

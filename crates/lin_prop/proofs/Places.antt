@@ -3,7 +3,7 @@ use Rattle.std.proofs.Common.{◌≡◌, ℕ, ◌+◌, ◌<◌, ◌≤◌, List,
 use Rattle.std.specs.Prelude.{Bool}
 use Rattle.std.proofs.lemmas.List.{drop_all}
 use Rattle.fzn_model.specs.declared.term.Term.{Term}
-use Rattle.dom_store.specs.Bounds.{sum_of}
+use Rattle.fzn_model.specs.Bounds.{sum_of}
 use Rattle.lin_prop.specs.Signed.{signed, signed_all}
 
 -- the sum from place i on is the part there and the sum after it

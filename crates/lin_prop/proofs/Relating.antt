@@ -10,7 +10,7 @@ use Rattle.fzn_model.specs.Meaning.{lin_sum}
 use Rattle.fzn_model.specs.Kept.{SumKept}
 use Rattle.fzn_model.specs.Boxes.{IsBox, InBox}
 use Rattle.dom_store.specs.Stores.{Stored}
-use Rattle.dom_store.specs.Bounds.{IsFixed, part_low, part_high, sum_low, sum_high}
+use Rattle.fzn_model.specs.Bounds.{IsFixed, part_low, part_high, sum_low, sum_high}
 use Rattle.dom_store.specs.Strength.{SumIsFixed, IsChecked}
 use Rattle.dom_store.specs.Laws.{loses_more, runs_trans, none_before, still}
 use Rattle.dom_store.specs.declared.pass.Passed.{Passed}

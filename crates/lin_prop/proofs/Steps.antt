@@ -1,18 +1,17 @@
 -- One term of a sum, narrowed by steps from its bound.
-use Rattle.std.proofs.Common.{◌≡◌, ◌≢◌, ℕ, suc, List, [], length, ℤ, pos, negsuc, neg_ℤ, ◌+ℤ◌, ◌-ℤ◌, ◌*ℤ◌, ◌≤ℤ◌, ◌<ℤ◌, refl, sym, ap, ◌∙◌, arith, subst}
+use Rattle.std.proofs.Common.{◌≡◌, ◌≢◌, ℕ, suc, List, length, ℤ, pos, negsuc, neg_ℤ, ◌+ℤ◌, ◌-ℤ◌, ◌*ℤ◌, ◌≤ℤ◌, ◌<ℤ◌, refl, sym, ap, ◌∙◌, arith, subst}
 use Rattle.std.specs.Prelude.{unsigned_abs, Bool, true, false}
 use Rattle.std.proofs.lemmas.Int.{ints, by_lt_z}
 use Rattle.std.proofs.Math.IntN.{zero-*ℤ}
 use Rattle.dom_store.specs.Answers.{Narrow, Same}
 use Rattle.fzn_model.specs.declared.term.Term.{Term}
-use Rattle.fzn_model.specs.declared.term.Term.TheVariants as term
 use Rattle.fzn_model.specs.Meaning.{val}
 use Rattle.fzn_model.specs.Kept.{TermIn, IsValue}
 use Rattle.fzn_model.specs.Boxes.{IsBox, InBox}
 use Rattle.dom_store.specs.Stores.{Stored}
-use Rattle.dom_store.specs.Bounds.{term_low, term_high, TermHas, part_low, part_high}
+use Rattle.fzn_model.specs.Bounds.{term_low, term_high, part_low, part_high}
 use Rattle.dom_store.specs.Cuts.{Cuts}
-use Rattle.dom_store.specs.Laws.{has_value, low_to_high, val_has, has_low, has_high}
+use Rattle.fzn_model.specs.Terms.{has_value, low_to_high, val_has, has_low, has_high}
 use Rattle.lin_prop.specs.Signed.{signed}
 use Rattle.lin_prop.specs.Capped.{PartIsAtMost}
 use Rattle.lin_prop.proofs.Products.{up_mono, down_mono, low_up, low_down, high_up, high_down, dist, dist_minus, turned}

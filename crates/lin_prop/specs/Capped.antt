@@ -4,7 +4,7 @@ use Rattle.fzn_model.specs.declared.term.Term.{Term}
 use Rattle.fzn_model.specs.Meaning.{lin_sum}
 use Rattle.dom_store.specs.Stores.{Stored}
 use Rattle.dom_store.specs.Narrowing.{Loses, HasNone}
-use Rattle.dom_store.specs.Bounds.{sum_low}
+use Rattle.fzn_model.specs.Bounds.{sum_low}
 use Rattle.dom_store.specs.Strength.{IsCapped}
 use Rattle.dom_store.specs.declared.pass.Passed.{Passed}
 use Rattle.dom_store.specs.declared.pass.Passed.TheVariants as passed

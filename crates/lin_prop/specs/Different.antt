@@ -5,7 +5,7 @@ use Rattle.fzn_model.specs.Meaning.{lin_sum}
 use Rattle.fzn_model.specs.Kept.{IsValue}
 use Rattle.dom_store.specs.Stores.{Stored}
 use Rattle.dom_store.specs.Narrowing.{Loses, HasNone}
-use Rattle.dom_store.specs.Bounds.{IsFixed, sum_low, others_low}
+use Rattle.fzn_model.specs.Bounds.{IsFixed, sum_low, others_low}
 use Rattle.dom_store.specs.Strength.{SumIsFixed, OthersFixed, IsAvoided}
 use Rattle.dom_store.specs.declared.pass.Passed.{Passed}
 use Rattle.dom_store.specs.declared.pass.Passed.TheVariants as passed

@@ -2,7 +2,7 @@
 ghost use Rattle.std.specs.Prelude.{◌≡◌, ◌≤◌, ◌≤ℤ◌, ◌<ℤ◌, ◌+ℤ◌, ◌^◌, pos, length, unsigned_abs, IfSome, IfNone};
 ghost use Rattle.fzn_model.specs.Kept.{SumKept};
 ghost use Rattle.fzn_model.specs.Boxes.{IsBox};
-ghost use Rattle.dom_store.specs.Bounds.{sum_low};
+ghost use Rattle.fzn_model.specs.Bounds.{sum_low};
 ghost use Rattle.lin_prop.specs.Signed.{signed_all};
 ghost use Rattle.lin_prop.specs.Capped.{Lowers, CapSays};
 

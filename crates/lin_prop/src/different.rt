@@ -2,7 +2,7 @@
 ghost use Rattle.std.specs.Prelude.{◌≡◌, ◌≢◌, ◌≤◌, ◌<◌, ◌^◌, ◌+ℤ◌, ◌*ℤ◌, ◌-ℤ◌, pos, false, length, slice_index_or, unsigned_abs, int_div, IsTrue, IsFalse, IfSome, IfNone};
 ghost use Rattle.fzn_model.specs.Kept.{IsValue, TermIn, SumKept};
 ghost use Rattle.fzn_model.specs.Boxes.{IsBox};
-ghost use Rattle.dom_store.specs.Bounds.{sum_low, IsLookedAt};
+ghost use Rattle.fzn_model.specs.Bounds.{sum_low, IsLookedAt};
 ghost use Rattle.dom_store.specs.Cuts.{Cuts};
 ghost use Rattle.lin_prop.specs.Signed.{signed_all};
 ghost use Rattle.lin_prop.specs.Different.{Separates, SeparateSays, Excludes, OpenSays, LeavesFor};

@@ -3,14 +3,15 @@ ghost use Rattle.fzn_model.specs.declared.con.Con.TheVariants as con;
 ghost use Rattle.fzn_model.specs.declared.base.Base.TheVariants as base;
 ghost use Rattle.fzn_model.specs.declared.lin.Rel.TheVariants.{Le, Eq, Ne};
 ghost use Rattle.fzn_model.specs.Kept.{SumKept};
-ghost use Rattle.dom_store.specs.Propagation.{Suits, Runs};
+ghost use Rattle.fzn_model.specs.Booleans.{Suits};
+ghost use Rattle.dom_store.specs.Propagation.{Runs};
 ghost use Rattle.dom_store.specs.Passes.{Concludes};
 ghost use Rattle.lin_prop.specs.Kinds.{IsLinear, Relates, Concluded};
 
 use crate::capped::cap_sum;
 use crate::different::part_sum;
 use dom_store::{Pass, Passed, Propagator, Ran, Store, pass_on};
-use fzn_model::{Base, Con, Lin, List, Rel, Term};
+use fzn_model::{Base, Con, Lin, Rel, Term};
 use std::alloc::{AllocError, Global};
 use std::marker::Model;
 
@@ -89,13 +90,6 @@ fn pass_relation(rel: Rel, store: &mut Store, parts: &[(i64, Term)], r: &i128) -
     }
 }
 
-/// The same terms.
-fn copy(alloc: Global, parts: &List<(i64, Term)>) -> Result<List<(i64, Term)>, AllocError>
-    ensures { IfOk result (λ copy. copy ≡ parts.now) }
-{
-    Ok(List::from_vec(Vec::from_slice(alloc, parts.as_slice())?))
-}
-
 impl LinProp {
     /// The propagator for a linear relation, `Con::Base(Base::Lin(..))`.
     pub fn new(alloc: Global, con: &Con) -> Result<LinProp, AllocError>
@@ -106,11 +100,7 @@ impl LinProp {
             unreachable!()
         };
         Ok(LinProp {
-            lin: Lin {
-                rel: lin.rel,
-                terms: copy(alloc, &lin.terms)?,
-                r: lin.r,
-            },
+            lin: lin.copy(alloc)?,
         })
     }
 }

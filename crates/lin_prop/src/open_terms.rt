@@ -1,6 +1,6 @@
 ghost use Rattle.std.specs.Prelude.{◌<◌, ◌≤◌, length, IsTrue, IsFalse, IfSome, IfNone};
 ghost use Rattle.fzn_model.specs.Kept.{TermIn, SumKept};
-ghost use Rattle.dom_store.specs.Bounds.{IsFixed};
+ghost use Rattle.fzn_model.specs.Bounds.{IsFixed};
 ghost use Rattle.lin_prop.specs.Different.{IsOpenAt, OpenSays, FixedBetween};
 
 use dom_store::{Store, greatest, least};

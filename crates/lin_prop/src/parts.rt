@@ -2,7 +2,7 @@
 ghost use Rattle.std.specs.Prelude.{◌≡◌, ◌≤◌, ◌≤ℤ◌, ◌<ℤ◌, ◌+ℤ◌, ◌-ℤ◌, ◌*ℤ◌, pos, length, unsigned_abs};
 ghost use Rattle.fzn_model.specs.Kept.{IsValue, TermIn};
 ghost use Rattle.fzn_model.specs.Boxes.{IsBox};
-ghost use Rattle.dom_store.specs.Bounds.{term_low, term_high, part_low, part_high};
+ghost use Rattle.fzn_model.specs.Bounds.{term_low, term_high, part_low, part_high};
 ghost use Rattle.dom_store.specs.Cuts.{Cuts};
 ghost use Rattle.lin_prop.specs.Signed.{signed};
 ghost use Rattle.lin_prop.specs.Capped.{PartIsAtMost};

@@ -1,6 +1,6 @@
 ghost use Rattle.std.specs.Prelude.{◌≡◌, ◌≤◌, ◌*◌, ◌≤ℤ◌, ◌<ℤ◌, ◌*ℤ◌, pos, IsTrue, IsFalse, length, unsigned_abs};
 ghost use Rattle.fzn_model.specs.Kept.{IsValue, TermIn, SumKept};
-ghost use Rattle.dom_store.specs.Bounds.{part_low, sum_low};
+ghost use Rattle.fzn_model.specs.Bounds.{part_low, sum_low};
 ghost use Rattle.lin_prop.specs.Signed.{signed, signed_all};
 
 use dom_store::{Store, greatest, least};

@@ -1,6 +1,6 @@
 use Rattle.std.proofs.Common.{◌≡◌, drop}
 use Rattle.std.specs.Prelude.{filter}
-use Rattle.dom_store.specs.Bounds.{is_open}
+use Rattle.fzn_model.specs.Bounds.{is_open}
 use Rattle.bool_prop.specs.Opens.{joined, opens}
 use Rattle.bool_prop.proofs.clause.open_terms.Given as goal
 

@@ -1,6 +1,6 @@
 use Rattle.std.proofs.Common.{◌+◌, ◌-◌, ◌≤ℤ◌, pos, arith}
 use Rattle.std.proofs.lemmas.Int.{ints}
-use Rattle.dom_store.specs.Bounds.{term_high}
+use Rattle.fzn_model.specs.Bounds.{term_high}
 use Rattle.element_prop.proofs.Passing.{runs_more, ready_on}
 use Rattle.element_prop.proofs.Meeting.{falls_on, last_met, none_left}
 use Rattle.element_prop.proofs.places.drop_last.Goals as goal

@@ -1,6 +1,6 @@
 use Rattle.std.proofs.Common.{◌-◌, ◌≤ℤ◌, pos}
 use Rattle.fzn_model.specs.declared.con.Con.TheVariants as con
-use Rattle.dom_store.specs.Bounds.{term_high}
+use Rattle.fzn_model.specs.Bounds.{term_high}
 use Rattle.dom_store.specs.Propagation.{Runs}
 use Rattle.element_prop.specs.Places.{IsReady}
 use Rattle.element_prop.proofs.places.drop_last.Given as goal

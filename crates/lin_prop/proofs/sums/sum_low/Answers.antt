@@ -1,7 +1,7 @@
 use Rattle.std.proofs.Common.{pos, arith}
 use Rattle.std.proofs.lemmas.Int.{ints}
 use Rattle.fzn_model.specs.declared.term.Term.TheVariants.{Const}
-use Rattle.dom_store.specs.Bounds.{part_low}
+use Rattle.fzn_model.specs.Bounds.{part_low}
 use Rattle.lin_prop.proofs.Places.{sum-drop, sum-none}
 use Rattle.lin_prop.proofs.sums.sum_low.Goals as goal
 

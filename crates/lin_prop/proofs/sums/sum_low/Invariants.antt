@@ -1,6 +1,6 @@
 use Rattle.std.proofs.Common.{◌≡◌, ◌*◌, ◌≤◌, drop, ◌+ℤ◌}
 use Rattle.std.specs.Prelude.{unsigned_abs}
-use Rattle.dom_store.specs.Bounds.{sum_low}
+use Rattle.fzn_model.specs.Bounds.{sum_low}
 use Rattle.lin_prop.specs.Signed.{signed_all}
 use Rattle.lin_prop.proofs.sums.sum_low.Given as goal
 
