@@ -1,0 +1,12 @@
+pub mod Pigeons
+pub mod Counting
+pub mod Sorting
+pub mod Free
+pub mod Gathering
+pub mod Filling
+pub mod Crowding
+pub mod Stepping
+pub mod Clearing
+pub mod Freeing
+pub mod Settling
+pub mod Owing

@@ -1,0 +1,8 @@
+use Rattle.fzn_model.specs.declared.con.Con.TheVariants as con
+use Rattle.dom_store.specs.declared.pass.Passed.TheVariants as passed
+use Rattle.alldiff_prop.specs.Steps.{Steps, EachTo}
+use Rattle.alldiff_prop.specs.Halls.{IsApart}
+use Rattle.alldiff_prop.proofs.narrow.narrow_members.Given as goal
+
+abbrev pub invariant-loop-term : goal.invariant-loop-term
+invariant-loop-term l = Steps (EachTo (IsApart l.low l.fulls) l.members l.term-index) (con.AllDiffExcept l.members l.taken) l.fn.store l.store passed.Done

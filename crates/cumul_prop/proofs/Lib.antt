@@ -1,0 +1,9 @@
+pub mod Gathering
+pub mod Profiling
+pub mod Placing
+pub mod Amounts
+pub mod Fitting
+pub mod Signing
+pub mod Limiting
+pub mod Owing
+pub mod Ending

@@ -1,0 +1,104 @@
+//! What is used for sure fits, and each task fits at its first and at its last start.
+ghost use Rattle.std.specs.Prelude.{◌≡◌, ◌↔◌, length, IsTrue, IfOk};
+ghost use Rattle.fzn_model.specs.declared.con.Con.TheVariants as con;
+ghost use Rattle.dom_store.specs.Propagation.{Runs};
+ghost use Rattle.dom_store.specs.Steps.{Steps};
+ghost use Rattle.fzn_model.specs.Kept.{TermIn};
+ghost use Rattle.fzn_model.specs.Bounds.{term_high};
+ghost use Rattle.cumul_prop.specs.Parts.{IsReady, AreParts, IsProfileTo, AreWithin, all_parts};
+ghost use Rattle.cumul_prop.specs.Limits.{AreLimits};
+ghost use Rattle.cumul_prop.specs.Narrowing.{IsFitted};
+
+use crate::limits::limits_of;
+use crate::parts::parts;
+use crate::profile::{are_within, profile_of};
+use crate::starts::limit_starts;
+use dom_store::{Passed, Store, greatest};
+use fzn_model::{CumTask, Term, Used};
+use std::alloc::{AllocError, Global};
+
+/// Whether what is used for sure fits.
+fn fits(store: &Store, profile: &[(i64, i128)], capacity: Term) -> bool
+    requires { TermIn (length store.now.box) capacity }
+    ensures { IsTrue result ↔ AreWithin (term_high store.now.box capacity) profile.now }
+{
+    are_within(profile, &greatest(store, capacity))
+}
+
+/// Keeps the starts within limits, where what is used for sure fits.
+#[tactic(auto, using(crate::proofs::Limiting::all_bounded))]
+fn limit_by(
+    store: &mut Store,
+    tasks: &[CumTask],
+    used: &[Used],
+    capacity: Term,
+    all: &[Used],
+    profile: &[(i64, i128)],
+    limits: &[(i64, i64)],
+) -> Passed
+    requires ready { IsReady store.old.box tasks.now used.now capacity }
+    requires whole { all.now ≡ all_parts store.old.box tasks.now used.now }
+    requires profile { IsProfileTo all.now (length all.now) profile.now }
+    requires within { AreWithin (term_high store.old.box capacity) profile.now }
+    requires limits { AreLimits store.old.box tasks.now used.now capacity (length tasks.now) limits.now }
+    ensures { Steps (IsFitted tasks.now used.now capacity) (con.CumulUsed tasks.now used.now capacity) store.old store.new result }
+{
+    limit_starts(store, tasks, used, capacity, limits)
+}
+
+/// Narrows the starts by what is used at moments.
+fn narrow_by(
+    alloc: Global,
+    store: &mut Store,
+    tasks: &[CumTask],
+    used: &[Used],
+    capacity: Term,
+    all: &[Used],
+    profile: &[(i64, i128)],
+) -> Result<Passed, AllocError>
+    requires ready { IsReady store.old.box tasks.now used.now capacity }
+    requires whole { all.now ≡ all_parts store.old.box tasks.now used.now }
+    requires all { AreParts all.now }
+    requires profile { IsProfileTo all.now (length all.now) profile.now }
+    ensures runs { Runs (con.CumulUsed tasks.now used.now capacity) store.old store.new }
+    ensures steps { IfOk result (Steps (IsFitted tasks.now used.now capacity) (con.CumulUsed tasks.now used.now capacity) store.old store.new) }
+{
+    if !fits(store, profile, capacity) {
+        return Ok(Passed::Empty);
+    }
+    let limits = limits_of(alloc, store, tasks, used, capacity, all, profile)?;
+    Ok(limit_by(
+        store,
+        tasks,
+        used,
+        capacity,
+        all,
+        profile,
+        limits.as_slice(),
+    ))
+}
+
+/// Narrows the starts by what is used for sure.
+pub(crate) fn narrow_starts(
+    alloc: Global,
+    store: &mut Store,
+    tasks: &[CumTask],
+    used: &[Used],
+    capacity: Term,
+) -> Result<Passed, AllocError>
+    requires { IsReady store.old.box tasks.now used.now capacity }
+    ensures runs { Runs (con.CumulUsed tasks.now used.now capacity) store.old store.new }
+    ensures steps { IfOk result (Steps (IsFitted tasks.now used.now capacity) (con.CumulUsed tasks.now used.now capacity) store.old store.new) }
+{
+    let all = parts(alloc, store, tasks, used)?;
+    let profile = profile_of(alloc, all.as_slice())?;
+    narrow_by(
+        alloc,
+        store,
+        tasks,
+        used,
+        capacity,
+        all.as_slice(),
+        profile.as_slice(),
+    )
+}

@@ -1,0 +1,94 @@
+//! Compulsory parts, and what is used at a moment.
+ghost use Rattle.std.specs.Prelude.{◌≡◌, ◌*◌, ◌^◌, ◌≤◌, ◌≤ℤ◌, ◌+ℤ◌, ◌++◌, pos, map, length, unsigned_abs, IfOk};
+ghost use Rattle.std.specs.Int.{int_max};
+ghost use Rattle.fzn_model.specs.declared.cumulative.Used.{Used};
+ghost use Rattle.fzn_model.specs.Kept.{TermIn, TasksKept, UsedKept, IsNear, of_call};
+ghost use Rattle.fzn_model.specs.Bounds.{term_low};
+ghost use Rattle.fzn_model.specs.Meaning.{amount_at};
+ghost use Rattle.fzn_model.proofs.Moments.{part};
+ghost use Rattle.dom_store.specs.Strength.{part_of};
+ghost use Rattle.cumul_prop.specs.Parts.{all_parts, IsPart, AreParts};
+
+use dom_store::{Store, greatest, least};
+use fzn_model::{CumTask, Used};
+use std::alloc::{AllocError, Global};
+
+/// The first end of a task.
+fn first_end(store: &Store, task: &CumTask) -> i64
+    requires start { TermIn (length store.now.box) task.now.s }
+    requires duration { TermIn (length store.now.box) task.now.d }
+    ensures value { result ≡ term_low store.now.box task.now.s +ℤ term_low store.now.box task.now.d }
+    ensures near { IsNear result }
+{
+    least(store, task.s) + least(store, task.d)
+}
+
+/// The least use of a task, or 0 where that is more.
+fn least_use(store: &Store, task: &CumTask) -> i128
+    requires { TermIn (length store.now.box) task.now.r }
+    ensures value { result ≡ int_max (pos 0) (term_low store.now.box task.now.r) }
+    ensures small { unsigned_abs result ≤ 1000000 }
+{
+    i128::from(least(store, task.r)).max(0)
+}
+
+/// The compulsory part of a task: it goes from the last start to the first end, where that is later.
+pub(crate) fn compulsory(store: &Store, task: &CumTask) -> Used
+    requires terms { TermIn (length store.now.box) task.now.s × TermIn (length store.now.box) task.now.d × TermIn (length store.now.box) task.now.r }
+    ensures value { result ≡ part_of store.now.box task.now }
+    ensures part { IsPart result }
+{
+    Used {
+        from: greatest(store, task.s),
+        to: first_end(store, task),
+        amount: least_use(store, task),
+    }
+}
+
+/// The used amounts, and the compulsory parts of all tasks behind them.
+#[tactic(auto, using(crate::proofs::Gathering::used_parts, crate::proofs::Gathering::all_gathered))]
+pub(crate) fn parts(
+    alloc: Global,
+    store: &Store,
+    tasks: &[CumTask],
+    used: &[Used],
+) -> Result<Vec<Used>, AllocError>
+    requires tasks { TasksKept (length store.now.box) tasks.now }
+    requires used { UsedKept of_call used.now }
+    ensures value { IfOk result (λ all. all.items ≡ all_parts store.now.box tasks.now used.now) }
+    ensures parts { IfOk result (λ all. AreParts all.items) }
+{
+    let mut all = Vec::from_slice(alloc, used)?;
+    for task in tasks {
+        all.push(compulsory(store, task))?;
+    }
+    Ok(all)
+}
+
+/// What is used of an amount at a moment.
+pub(crate) fn at(one: &Used, moment: &i64) -> i128
+    requires { IsPart one.now }
+    ensures value { result ≡ part one.now moment.now }
+    ensures low { pos 0 ≤ℤ result }
+    ensures high { result ≤ℤ pos (2 ^ 100) }
+{
+    if one.from <= *moment && *moment < one.to {
+        one.amount
+    } else {
+        0
+    }
+}
+
+/// What is used up at a moment.
+pub(crate) fn load(all: &[Used], moment: &i64) -> i128
+    requires { AreParts all.now }
+    ensures value { result ≡ amount_at all.now moment.now }
+    ensures low { pos 0 ≤ℤ result }
+    ensures high { result ≤ℤ pos (10000000 * 2 ^ 100) }
+{
+    let mut load: i128 = 0;
+    for one in all {
+        load += at(one, moment);
+    }
+    load
+}

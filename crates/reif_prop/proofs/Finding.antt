@@ -1,0 +1,151 @@
+-- The values that a term has, against a set.
+use Rattle.std.proofs.Common.{◌≡◌, ℕ, zero, suc, ◌+◌, ◌-◌, ◌<◌, ◌≤◌, ◌⊎◌, ◌↔◌, List, [], ◌∷◌, length, get_or, refl, sym, subst, ◌∙◌, arith, below_more, inl, inr}
+use Rattle.std.specs.Prelude.{Bool, true, false, ℤ, pos, negsuc, ◌+ℤ◌, ◌≤ℤ◌, ◌<ℤ◌, int_lt, All}
+use Rattle.std.specs.Int.{int_min, int_max}
+use Rattle.std.proofs.lemmas.Int.{ints, clamps}
+use Rattle.std.proofs.lemmas.Bool.{cases_lt}
+use Rattle.std.proofs.lemmas.List.{get_or_default}
+use Rattle.fzn_model.specs.declared.term.Term.{Term}
+use Rattle.fzn_model.specs.Sets.{IsIn, IsWithin, AreAbove, AreRuns}
+use Rattle.fzn_model.specs.Kept.{TermIn}
+use Rattle.fzn_model.specs.Boxes.{IsBox}
+use Rattle.fzn_model.specs.Bounds.{term_low, term_high, TermHas}
+use Rattle.fzn_model.specs.Terms.{has_between}
+use Rattle.reif_prop.specs.Values.{HasWithin, IsFreeOf, HasNoneBefore, AllInside, AllOutside, run_at, IsPast, IsBefore, HasInGap, GapsAreFree}
+
+pub is_less : (a b : ℤ) → int_lt a b ≡ true → a <ℤ b
+is_less a b is = grind (arith, ints)
+
+pub not_less : (a b : ℤ) → int_lt a b ≡ false → b ≤ℤ a
+not_less a b is = grind (arith, ints)
+
+-- which of two numbers is less
+pub order : (a b : ℤ) → (a <ℤ b) ⊎ (b ≤ℤ a)
+order a b = by_test (int_lt a b) refl
+  where
+    by_test : (t : Bool) → int_lt a b ≡ t → (a <ℤ b) ⊎ (b ≤ℤ a)
+    by_test true is = inl (is_less a b is)
+    by_test false is = inr (not_less a b is)
+
+-- ---- the runs of a set
+-- a run of those above a number begins above it, and has its ends in order
+above_run : (before : ℤ) (runs : List (ℤ × ℤ)) (k : ℕ) (d : ℤ × ℤ) → AreAbove before runs → k < length runs → (before <ℤ (get_or runs k d).0) × ((get_or runs k d).0 ≤ℤ (get_or runs k d).1)
+above_run before [] k d a h = absurd (omega arith)
+above_run before (r ∷ rs) zero d a h = (omega (arith, ints, a.0), a.1)
+above_run before (r ∷ rs) (suc k) d a h = let p = above_run r.1 rs k d a.2 (omega arith) in (omega (arith, ints, a.0, a.1, p.0), p.1)
+
+-- both ends rise
+rise_above : (before : ℤ) (runs : List (ℤ × ℤ)) (i j : ℕ) (d : ℤ × ℤ) → AreAbove before runs → i ≤ j → j < length runs → ((get_or runs i d).0 ≤ℤ (get_or runs j d).0) × ((get_or runs i d).1 ≤ℤ (get_or runs j d).1)
+rise_above before [] i j d a le h = absurd (omega arith)
+rise_above before (r ∷ rs) zero zero d a le h = (omega (arith, ints), omega (arith, ints))
+rise_above before (r ∷ rs) zero (suc j) d a le h = let p = above_run r.1 rs j d a.2 (omega arith) in (omega (arith, ints, a.1, p.0), omega (arith, ints, p.0, p.1))
+rise_above before (r ∷ rs) (suc i) zero d a le h = absurd (omega arith)
+rise_above before (r ∷ rs) (suc i) (suc j) d a le h = rise_above r.1 rs i j d a.2 (omega arith) (omega arith)
+
+-- the runs of a set are above some number
+below_first : (runs : List (ℤ × ℤ)) → AreRuns runs → (before : ℤ) × AreAbove before runs
+below_first [] a = (pos 0, tt)
+below_first (r ∷ rs) a = (r.0 +ℤ negsuc 1, (omega (arith, ints), a.0, a.1))
+
+rises : (runs : List (ℤ × ℤ)) (i j : ℕ) → AreRuns runs → i ≤ j → j < length runs → ((run_at runs i).0 ≤ℤ (run_at runs j).0) × ((run_at runs i).1 ≤ℤ (run_at runs j).1)
+rises runs i j a le h = let above = below_first runs a in rise_above above.0 runs i j (pos 0, pos 0) above.1 le h
+
+-- a number is in one of the first gaps, in the set, or above the first runs
+located : (set : List (ℤ × ℤ)) (v : ℤ) (n : ℕ) → n ≤ length set → ((k : ℕ) × (k < n) × IsPast set k v × IsBefore set k v) ⊎ (IsIn set v ⊎ IsPast set n v)
+unfolding IsIn IsWithin
+located set v zero h = inr (inr (λ less. absurd (omega arith)))
+located set v (suc n) h = elim (located set v n (omega arith)) [
+  | inl (k, less, past, before) ↦ inl (k, omega arith, past, before)
+  | inr (inl there) ↦ inr (inl there)
+  | inr (inr past) ↦ elim (order v (run_at set n).0) [
+    | inl below ↦ inl (n, omega arith, past, λ inside. below)
+    | inr from ↦ elim (order (run_at set n).1 v) [
+      | inl beyond ↦ inr (inr (λ less. subst (λ k. (run_at set k).1 <ℤ v) (omega arith) beyond))
+      | inr to ↦ inr (inl (n, run_at set n, omega arith, get_or_default set n (run_at set n) (pos 0, pos 0) (omega arith), (from, to)))
+    ]
+  ]
+]
+
+module _ (box : List (List ℤ)) (x : Term) where
+  -- ---- from a number to another
+  pub within_is : (low high first end v : ℤ) → first ≡ int_max low (term_low box x) → end ≡ (int_min high (term_high box x) +ℤ pos 1) → first ≤ℤ v → v <ℤ end → TermHas box x v → HasWithin box x low high
+  unfolding HasWithin
+  within_is low high first end v e f from to has = (v, omega (arith, ints, clamps), omega (arith, ints, clamps), has)
+
+  pub none_first : (low first : ℤ) → IsBox box → TermIn (length box) x → first ≡ int_max low (term_low box x) → HasNoneBefore box x low first
+  unfolding HasNoneBefore
+  none_first low first sound inside e v from less has =
+      let ends = has_between box x v sound inside has in
+      omega (arith, ints, clamps, ends.0)
+
+  pub none_more : (low v : ℤ) → HasNoneBefore box x low v → (TermHas box x v → ⊥) → HasNoneBefore box x low (v +ℤ pos 1)
+  unfolding HasNoneBefore
+  none_more low v before none w from less has = elim (order w v) [
+    | inl below ↦ before w from below has
+    | inr above ↦ none (subst (TermHas box x) (omega (arith, ints)) has)
+  ]
+
+  pub none_within : (low high v end : ℤ) → IsBox box → TermIn (length box) x → end ≡ (int_min high (term_high box x) +ℤ pos 1) → end ≤ℤ v → HasNoneBefore box x low v → HasWithin box x low high → ⊥
+  unfolding HasNoneBefore HasWithin
+  none_within low high v end sound inside e past before (w, from, to, has) =
+      let ends = has_between box x w sound inside has in
+      before w from (omega (arith, ints, clamps, ends.1)) has
+
+  -- ---- gaps
+  pub gap_is : (set : List (ℤ × ℤ)) (k : ℕ) (low high : ℤ) → ((v : ℤ) → TermHas box x v → (IsPast set k v ↔ (low ≤ℤ v))) → ((v : ℤ) → TermHas box x v → (IsBefore set k v ↔ (v ≤ℤ high))) → HasWithin box x low high ↔ HasInGap box x set k
+  unfolding HasWithin HasInGap
+  gap_is set k low high past before =
+      ((λ (v, from, to, has). (v, has, (past v has).1 from, (before v has).1 to)), (λ (v, has, above, below). (v, (past v has).0 above, (before v has).0 below, has)))
+
+  pub first_gap : (set : List (ℤ × ℤ)) (k : ℕ) (low : ℤ) → IsBox box → TermIn (length box) x → low ≡ term_low box x → k ≡ 0 → (v : ℤ) → TermHas box x v → (IsPast set k v ↔ (low ≤ℤ v))
+  first_gap set k low sound inside e first v has =
+      let ends = has_between box x v sound inside has in
+      ((λ past. omega (arith, ints, ends.0, e)), (λ from less. absurd (omega arith)))
+
+  pub last_gap : (set : List (ℤ × ℤ)) (k : ℕ) (high : ℤ) → IsBox box → TermIn (length box) x → high ≡ term_high box x → k ≡ length set → (v : ℤ) → TermHas box x v → (IsBefore set k v ↔ (v ≤ℤ high))
+  last_gap set k high sound inside e last v has =
+      let ends = has_between box x v sound inside has in
+      ((λ before. omega (arith, ints, ends.1, e)), (λ to less. absurd (omega arith)))
+
+  pub gaps_none : (set : List (ℤ × ℤ)) → GapsAreFree box x set 0
+  unfolding GapsAreFree
+  gaps_none set k h = absurd (omega arith)
+
+  pub gaps_more : (set : List (ℤ × ℤ)) (n : ℕ) → GapsAreFree box x set n → (HasInGap box x set n → ⊥) → GapsAreFree box x set (n + 1)
+  unfolding GapsAreFree
+  gaps_more set n before here = below_more _ _ before here
+
+  pub gaps_all : (set : List (ℤ × ℤ)) (n : ℕ) → length set + 1 ≤ n → GapsAreFree box x set n → AllInside box x set
+  unfolding GapsAreFree AllInside HasInGap
+  gaps_all set n all free v has = elim (located set v (length set) (omega arith)) [
+    | inl (k, less, past, before) ↦ absurd (free k (omega arith) (v, has, past, before))
+    | inr (inl there) ↦ there
+    | inr (inr past) ↦ absurd (free (length set) (omega arith) (v, has, past, λ h. absurd (omega arith)))
+  ]
+
+  pub gap_outside : (set : List (ℤ × ℤ)) (k : ℕ) → AreRuns set → k ≤ length set → HasInGap box x set k → AllInside box x set → ⊥
+  unfolding HasInGap AllInside IsIn IsWithin
+  gap_outside set k runs few (v, has, past, before) all =
+      let (j, run, h, is, (from, to)) = all v has in
+      let here : run ≡ run_at set j = sym is ∙ get_or_default set j run (pos 0, pos 0) h in
+      let begins : (run_at set j).0 ≤ℤ v = subst (λ r. r.0 ≤ℤ v) here from in
+      let ends : v ≤ℤ (run_at set j).1 = subst (λ r. v ≤ℤ r.1) here to in
+      elim (cases_lt j k) [
+        | inl less ↦
+            let rise = rises set j (k - 1) runs (omega arith) (omega arith) in
+            let above : (run_at set (k - 1)).1 <ℤ v = past (omega arith) in
+            omega (arith, ints, rise.1, above, ends)
+        | inr more ↦
+            let rise = rises set k j runs more h in
+            let below : v <ℤ (run_at set k).0 = before (omega arith) in
+            omega (arith, ints, rise.0, below, begins)
+      ]
+
+  -- ---- runs
+  pub runs_outside : (set : List (ℤ × ℤ)) → All (IsFreeOf box x) set → AllOutside box x set
+  unfolding IsFreeOf HasWithin AllOutside IsIn IsWithin
+  runs_outside set all v has (k, run, h, is, (from, to)) = all k run h (rw is (v, from, to, has))
+
+  pub outside_runs : (set : List (ℤ × ℤ)) → AllOutside box x set → All (IsFreeOf box x) set
+  unfolding IsFreeOf HasWithin AllOutside IsIn IsWithin
+  outside_runs set out k d h (v, from, to, has) = out v has (k, get_or set k d, h, get_or_default set k (get_or set k d) d h, (from, to))

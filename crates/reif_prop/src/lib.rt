@@ -1,0 +1,38 @@
+//! Propagation of one kind of constraint: a base, which is a linear relation, a clause or a member of a set, holds exactly
+//! where a term has a value.
+//!
+//! What it is for: [`ReifProp`] narrows a store for `Con::Reif(base, term, flag)`. The base holds exactly where the term is 1
+//! (flag true), or exactly where it is 0 (flag false).
+//!
+//! What contracts see: the propagator as its constraint.
+//!
+//! What it promises: what each `Propagator` does. At `Kept`, the term is fixed where the bounds show that the base holds or
+//! fails; where it says that the base fails, all literals of a clause are false, and no value of a member that is looked at
+//! is in the set (`ReifIsOwed` of dom_store). Where all terms are fixed, the constraint holds. What a base must do where it
+//! has to hold, and a linear one where it has to fail, is the work of other propagators.
+//!
+//! What it costs: no memory but that of the base. A pass reads a sum up to four times, and a clause up to three times. Of a
+//! member it reads the runs up to three times, and as often the numbers between the bounds of a variable with a bitmap.
+//!
+//! What it stands on: dom_store for stores and terms, fzn_model for constraints.
+#![tactic(auto)]
+
+// What a step answers, and narrowings of one term.
+mod steps;
+
+// What the bounds show of a base, and what is done where it has to fail: one file for each kind.
+mod clause;
+mod linear;
+mod member;
+mod sums;
+mod values;
+mod verdict;
+
+// All bases, a whole pass, and the propagator.
+mod judge;
+mod pass_reified;
+mod reif_prop;
+#[cfg(test)]
+mod tests;
+
+pub use reif_prop::ReifProp;

@@ -1,0 +1,3 @@
+pub mod Kinds
+pub mod Among
+pub mod Rows
