@@ -8,9 +8,10 @@ use Rattle.fzn_model.specs.Kept.{IsValue, TermIn}
 use Rattle.fzn_model.specs.Boxes.{IsBox, InBox}
 use Rattle.dom_store.specs.Answers.{Narrow, Same, Changed, Empty}
 use Rattle.dom_store.specs.Stores.{Stored}
-use Rattle.dom_store.specs.Bounds.{term_low, term_high}
+use Rattle.fzn_model.specs.Bounds.{term_low, term_high}
 use Rattle.dom_store.specs.Cuts.{Cuts}
-use Rattle.dom_store.specs.Laws.{loses_refl, cuts_lose, cuts_none, val_has, has_value, has_low, has_high}
+use Rattle.fzn_model.specs.Terms.{val_has, has_value, has_low, has_high}
+use Rattle.dom_store.specs.Laws.{loses_refl, cuts_lose, cuts_none}
 use Rattle.dom_store.specs.declared.pass.Passed.TheVariants as passed
 use Rattle.prop_engine.specs.Goals.{IsBelow, Cheapens, CutSays, SameBound, passed_by}
 

@@ -1,3 +1,5 @@
 pub mod Cutting
 pub mod Sweeping
+pub mod Reifying
 pub mod Rounding
+pub mod Holding

@@ -7,13 +7,14 @@ use Rattle.fzn_model.specs.declared.goal.Goal.{Goal}
 use Rattle.dom_store.specs.Stores.{Stored, box_size}
 use Rattle.dom_store.specs.Narrowing.{Loses, HasNone}
 use Rattle.dom_store.specs.Strength.{IsOwed, IsStrong}
-use Rattle.dom_store.specs.Propagation.{Suits, FallsFar}
+use Rattle.fzn_model.specs.Booleans.{Suits}
+use Rattle.dom_store.specs.Propagation.{FallsFar}
 use Rattle.dom_store.specs.Laws.{loses_refl, loses_trans, loses_more, none_before, smaller, same_size, suits_after, still}
 use Rattle.dom_store.specs.declared.pass.Passed.TheVariants as passed
 use Rattle.dom_store.specs.declared.propagator.Ran.{Ran}
 use Rattle.dom_store.specs.declared.propagator.Ran.TheVariants as ran
 use Rattle.prop_engine.specs.Goals.{IsBelow, Cheapens, CutSays, greatest_cost}
-use Rattle.prop_engine.specs.Plans.{Plan, IsBuilt}
+use Rattle.prop_engine.specs.Plans.{Plan, CanHold}
 use Rattle.prop_engine.specs.Fixing.{Cheaper, Fixes, IsFixpoint, MeetsEach, Sweeps, SweepSays, RoundSays}
 
 below_of : (cs : List Con) (g : Goal) (below : ℤ) (θ : List ℤ) → Cheaper (record { cons = cs; goal = g }) below θ → IsBelow g below θ
@@ -55,31 +56,17 @@ pub cut_none : (cs : List Con) (g : Goal) (below : ℤ) (old new : List (List �
 unfolding CutSays RoundSays
 cut_none cs g below old new none θ lies p = none θ lies (below_of cs g below θ p)
 
-owed_strong : (box : List (List ℤ)) (c : Con) → IsBuilt c → IsOwed box c → IsStrong box c
-owed_strong box (con.Base b) built owed = record { kind = owed.kind; checked = owed.checked }
-owed_strong box (con.Reif b r f) built owed = absurd built
-owed_strong box (con.Times a b c) built owed = record { kind = owed.kind; checked = owed.checked }
-owed_strong box (con.Abs a b) built owed = record { kind = owed.kind; checked = owed.checked }
-owed_strong box (con.Div a b c) built owed = record { kind = owed.kind; checked = owed.checked }
-owed_strong box (con.Mod a b c) built owed = record { kind = owed.kind; checked = owed.checked }
-owed_strong box (con.Greatest m xs) built owed = record { kind = owed.kind; checked = owed.checked }
-owed_strong box (con.Least m xs) built owed = record { kind = owed.kind; checked = owed.checked }
-owed_strong box (con.Element i xs c) built owed = record { kind = owed.kind; checked = owed.checked }
-owed_strong box (con.AllDiffExcept xs taken) built owed = absurd built
-owed_strong box (con.CumulUsed tasks used b) built owed = absurd built
-owed_strong box (con.Table xs rows) built owed = absurd built
-
-pub round_says : (cs : List Con) (g : Goal) (below : ℤ) (old mid new : Stored) (answer : Ran) → Cheapens g below old mid → Sweeps cs mid new → CutSays g below old.box mid.box passed.Done → SweepSays cs mid.box new.box answer → All IsBuilt cs → RoundSays (record { cons = cs; goal = g }) below old.box new.box answer
+pub round_says : (cs : List Con) (g : Goal) (below : ℤ) (old mid new : Stored) (answer : Ran) → Cheapens g below old mid → Sweeps cs mid new → CutSays g below old.box mid.box passed.Done → SweepSays cs mid.box new.box answer → All CanHold cs → RoundSays (record { cons = cs; goal = g }) below old.box new.box answer
 unfolding CutSays SweepSays RoundSays
-round_says cs g below old mid new ran.Kept cut sweeps goal_says says built = λ e.
+round_says cs g below old mid new ran.Kept cut sweeps goal_says says able = λ e.
     let same : mid.box ≡ old.box = still _ _ old.box mid.box new.box cut.loses sweeps.loses e in
     let again : new.box ≡ mid.box = e ∙ sym same in
     record {
-      strong = λ k d h. owed_strong new.box (get_or cs k d) (built k d h) (says again k d h);
+      strong = λ k d h. says again k d h;
       cut = subst (λ b. greatest_cost b g <ℤ below) (sym again) goal_says;
     }
-round_says cs g below old mid new ran.Empty cut sweeps goal_says says built = λ θ lies p. says θ (cut.loses.kept θ lies (below_of cs g below θ p)) (meets_of cs g below θ p)
-round_says cs g below old mid new ran.EarlyStop cut sweeps goal_says says built =
+round_says cs g below old mid new ran.Empty cut sweeps goal_says says able = λ θ lies p. says θ (cut.loses.kept θ lies (below_of cs g below θ p)) (meets_of cs g below θ p)
+round_says cs g below old mid new ran.EarlyStop cut sweeps goal_says says able =
     let less = smaller (IsBelow g below) old.box mid.box cut.loses in
     omega (arith, less, says)
 

@@ -8,12 +8,13 @@ use Rattle.fzn_model.specs.declared.con.Con.{Con}
 use Rattle.fzn_model.specs.declared.con.Con.TheVariants as con
 use Rattle.fzn_model.specs.Meaning.{Holds}
 use Rattle.dom_store.specs.Stores.{Stored}
-use Rattle.dom_store.specs.Strength.{IsOwed}
-use Rattle.dom_store.specs.Propagation.{Suits, Runs, Says}
+use Rattle.dom_store.specs.Strength.{IsStrong}
+use Rattle.fzn_model.specs.Booleans.{Suits}
+use Rattle.dom_store.specs.Propagation.{Runs}
 use Rattle.dom_store.specs.Laws.{loses_refl, loses_trans, loses_more, none_before, smaller, still, suits_after}
 use Rattle.dom_store.specs.declared.propagator.Ran.{Ran}
 use Rattle.dom_store.specs.declared.propagator.Ran.TheVariants as ran
-use Rattle.prop_engine.specs.Fixing.{MeetsEach, Sweeps, SweepSays, RunsAt, SaysAt}
+use Rattle.prop_engine.specs.Fixing.{Settles, MeetsEach, Sweeps, SweepSays, RunsAt, SaysAt}
 
 pub sweeps_refl : (cs : List Con) (s : Stored) → Sweeps cs s s
 sweeps_refl cs s = record { loses = loses_refl (MeetsEach cs) s.box; saved = refl; changes = omega arith }
@@ -47,18 +48,18 @@ pub sweeps_more : (cs : List Con) (at : ℕ) (old now then : Stored) → at < le
 sweeps_more cs at old now then h sweeps runs = sweeps_trans cs old now then sweeps (at_sweeps cs at some_con now then h runs)
 
 -- where the box is as at the start, the constraints before a place have their strength
-unfoldable pub OwedBelow : List Con → List (List ℤ) → List (List ℤ) → ℕ → Type 0
-OwedBelow cs old now at = now ≡ old → (j : ℕ) → j < at → (d : Con) → IsOwed old (get_or cs j d)
+unfoldable pub StrongBelow : List Con → List (List ℤ) → List (List ℤ) → ℕ → Type 0
+StrongBelow cs old now at = now ≡ old → (j : ℕ) → j < at → (d : Con) → IsStrong old (get_or cs j d)
 
-pub owed_none : (cs : List Con) (old now : List (List ℤ)) → OwedBelow cs old now 0
-unfolding OwedBelow
-owed_none cs old now e j h = absurd (omega arith)
+pub strong_none : (cs : List Con) (old now : List (List ℤ)) → StrongBelow cs old now 0
+unfolding StrongBelow
+strong_none cs old now e j h = absurd (omega arith)
 
-pub owed_more : (cs : List Con) (at : ℕ) (old now then : Stored) → at < length cs → Sweeps cs old now → RunsAt cs at now then → SaysAt cs at now.box then.box ran.Kept → OwedBelow cs old.box now.box at → OwedBelow cs old.box then.box (at + 1)
-unfolding OwedBelow SaysAt
-owed_more cs at old now then h sweeps runs says owed e =
+pub strong_more : (cs : List Con) (at : ℕ) (old now then : Stored) → at < length cs → Sweeps cs old now → RunsAt cs at now then → SaysAt cs at now.box then.box ran.Kept → StrongBelow cs old.box now.box at → StrongBelow cs old.box then.box (at + 1)
+unfolding StrongBelow SaysAt
+strong_more cs at old now then h sweeps runs says owed e =
     let same : now.box ≡ old.box = still (MeetsEach cs) (MeetsEach cs) old.box now.box then.box sweeps.loses (at_sweeps cs at some_con now then h runs).loses e in
-    below_more _ _ (owed same) (λ d. subst (λ b. IsOwed b (get_or cs at d)) e (says d h))
+    below_more _ _ (owed same) (λ d. subst (λ b. IsStrong b (get_or cs at d)) e (says d h (e ∙ sym same)))
 
 pub sweep_none : (cs : List Con) (at : ℕ) (old now then : Stored) → at < length cs → Sweeps cs old now → SaysAt cs at now.box then.box ran.Empty → SweepSays cs old.box then.box ran.Empty
 unfolding SweepSays SaysAt
@@ -71,18 +72,18 @@ sweep_far cs at old now then h sweeps says =
     let far = says some_con h in
     omega (arith, less, far)
 
-pub sweep_kept : (cs : List Con) (at : ℕ) (old now : List (List ℤ)) → length cs ≤ at → OwedBelow cs old now at → SweepSays cs old now ran.Kept
-unfolding SweepSays OwedBelow
-sweep_kept cs at old now far owed e k d h = subst (λ b. IsOwed b (get_or cs k d)) (sym e) (owed e k (omega (arith, far, h)) d)
+pub sweep_kept : (cs : List Con) (at : ℕ) (old now : List (List ℤ)) → length cs ≤ at → StrongBelow cs old now at → SweepSays cs old now ran.Kept
+unfolding SweepSays StrongBelow
+sweep_kept cs at old now far owed e k d h = subst (λ b. IsStrong b (get_or cs k d)) (sym e) (owed e k (omega (arith, far, h)) d)
 
 -- the same, for a list that is equal
 pub runs_at : (cs : List Con) (at : ℕ) (c e : Con) (old new : Stored) → get_or cs at e ≡ c → Runs c old new → RunsAt cs at old new
 unfolding RunsAt
 runs_at cs at c e old new is runs d h = subst (λ (x : Con). Runs x old new) (sym is ∙ get_or_default cs at e d h) runs
 
-pub says_at : {E : Type 0} (cs : List Con) (at : ℕ) (c e : Con) (old new : List (List ℤ)) (result : Result Ran E) → get_or cs at e ≡ c → IfOk result (Says c old new) → IfOk result (SaysAt cs at old new)
+pub says_at : {E : Type 0} (cs : List Con) (at : ℕ) (c e : Con) (old new : List (List ℤ)) (result : Result Ran E) → get_or cs at e ≡ c → IfOk result (Settles c old new) → IfOk result (SaysAt cs at old new)
 unfolding SaysAt
-says_at cs at c e old new (Ok answer) is says = λ d h. subst (λ (x : Con). Says x old new answer) (sym is ∙ get_or_default cs at e d h) says
+says_at cs at c e old new (Ok answer) is says = λ d h. subst (λ (x : Con). Settles x old new answer) (sym is ∙ get_or_default cs at e d h) says
 says_at cs at c e old new (Err f) is says = tt
 
 module _ (cs ds : List Con) (at : ℕ) (old now then : Stored) (equal : ds ≡ cs) (h : at < length ds) (sweeps : Sweeps cs old now) where
@@ -92,8 +93,8 @@ module _ (cs ds : List Con) (at : ℕ) (old now then : Stored) (equal : ds ≡ c
   pub sweeps_next : RunsAt ds at now then → Sweeps cs old then
   sweeps_next runs = sweeps_more cs at old now then here sweeps (subst (λ (xs : List Con). RunsAt xs at now then) equal runs)
 
-  pub owed_next : RunsAt ds at now then → SaysAt ds at now.box then.box ran.Kept → OwedBelow cs old.box now.box at → OwedBelow cs old.box then.box (at + 1)
-  owed_next runs says owed = owed_more cs at old now then here sweeps (subst (λ (xs : List Con). RunsAt xs at now then) equal runs) (subst (λ (xs : List Con). SaysAt xs at now.box then.box ran.Kept) equal says) owed
+  pub strong_next : RunsAt ds at now then → SaysAt ds at now.box then.box ran.Kept → StrongBelow cs old.box now.box at → StrongBelow cs old.box then.box (at + 1)
+  strong_next runs says owed = strong_more cs at old now then here sweeps (subst (λ (xs : List Con). RunsAt xs at now then) equal runs) (subst (λ (xs : List Con). SaysAt xs at now.box then.box ran.Kept) equal says) owed
 
   pub none_next : SaysAt ds at now.box then.box ran.Empty → SweepSays cs old.box then.box ran.Empty
   none_next says = sweep_none cs at old now then here sweeps (subst (λ (xs : List Con). SaysAt xs at now.box then.box ran.Empty) equal says)

@@ -6,8 +6,8 @@ use Rattle.dom_store.specs.declared.propagator.Ran.{Ran}
 use Rattle.dom_store.specs.declared.propagator.Ran.TheVariants as ran
 use Rattle.dom_store.specs.Stores.{Stored}
 use Rattle.dom_store.specs.Narrowing.{Loses, HasNone}
-use Rattle.dom_store.specs.Propagation.{FallsFar, Runs, Says}
-use Rattle.dom_store.specs.Strength.{IsStrong, IsOwed}
+use Rattle.dom_store.specs.Propagation.{FallsFar, Runs}
+use Rattle.dom_store.specs.Strength.{IsStrong}
 use Rattle.prop_engine.specs.declared.fixed.Fixed.{Fixed}
 use Rattle.prop_engine.specs.declared.fixed.Fixed.TheVariants as fixed
 use Rattle.prop_engine.specs.Goals.{IsCheaper, greatest_cost}
@@ -34,6 +34,12 @@ Tells plan below old new fixed.Kept = IsFixpoint plan below new
 Tells plan below old new fixed.Empty = HasNone (Cheaper plan below) old
 Tells plan below old new fixed.EarlyStop = FallsFar old new
 
+-- what a run for one constraint says: where nothing went, it has its strength
+abbrev pub Settles : Con → List (List ℤ) → List (List ℤ) → Ran → Type 0
+Settles c old new ran.Kept = new ≡ old → IsStrong new c
+Settles c old new ran.Empty = HasNone (Holds c) old
+Settles c old new ran.EarlyStop = FallsFar old new
+
 -- all constraints hold
 unfoldable pub MeetsEach : List Con → List ℤ → Type 0
 MeetsEach cs θ = All (λ c. Holds c θ) cs
@@ -44,9 +50,9 @@ pub record Sweeps (cs : List Con) (old new : Stored) : Type 0 where
   pub saved : new.saved ≡ old.saved
   pub changes : old.changes ≤ new.changes
 
--- what a run of each propagator says: where nothing went, each constraint has the strength owed
+-- what a run of each propagator says: where nothing went, each constraint has its strength
 unfoldable pub SweepSays : List Con → List (List ℤ) → List (List ℤ) → Ran → Type 0
-SweepSays cs old new ran.Kept = new ≡ old → All (IsOwed new) cs
+SweepSays cs old new ran.Kept = new ≡ old → All (IsStrong new) cs
 SweepSays cs old new ran.Empty = HasNone (MeetsEach cs) old
 SweepSays cs old new ran.EarlyStop = FallsFar old new
 
@@ -61,4 +67,4 @@ unfoldable pub RunsAt : List Con → ℕ → Stored → Stored → Type 0
 RunsAt cs at old new = (d : Con) → at < length cs → Runs (slice_index_or cs at d) old new
 
 unfoldable pub SaysAt : List Con → ℕ → List (List ℤ) → List (List ℤ) → Ran → Type 0
-SaysAt cs at old new answer = (d : Con) → at < length cs → Says (slice_index_or cs at d) old new answer
+SaysAt cs at old new answer = (d : Con) → at < length cs → Settles (slice_index_or cs at d) old new answer

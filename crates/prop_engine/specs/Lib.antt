@@ -1,5 +1,6 @@
 pub mod Goals
 pub mod Plans
+pub mod Reified
 pub mod Fixing
 pub mod Kinds
 pub mod Laws

@@ -1,40 +1,56 @@
--- Models of linear relations, for the tests alone.
-use Rattle.std.specs.Prelude.{◌≤◌, ℕ, List, slice_index_or, ℤ, All, unsigned_abs}
+-- Models of a few kinds of constraint, for the tests alone.
+use Rattle.std.specs.Prelude.{◌≤◌, ℕ, Bool, List, length, slice_index_or, ℤ, All, unsigned_abs, ⊤}
+use Rattle.fzn_model.specs.declared.term.Term.{Term}
 use Rattle.fzn_model.specs.declared.lin.Lin.{Lin}
 use Rattle.fzn_model.specs.declared.base.Base.TheVariants as base
 use Rattle.fzn_model.specs.declared.con.Con.{Con}
 use Rattle.fzn_model.specs.declared.con.Con.TheVariants as con
-use Rattle.fzn_model.specs.Kept.{SumKept, ConKept, ConTruths, of_model}
-use Rattle.prop_engine.specs.Plans.{IsBuilt}
+use Rattle.fzn_model.specs.Kept.{TermIn, TermsIn, SumKept, TakenKept, ConKept, IsTruth, ConTruths, of_model}
 
--- a linear relation of a model over so many variables
-abbrev pub Plain : ℕ → Con → Type 0
-Plain n (con.Base (base.Lin l)) = SumKept n l.terms × (unsigned_abs l.r ≤ 1000000)
-Plain n c = ⊥
+-- a sum and a number of a model over so many variables
+pub record IsPlainSum (n : ℕ) (l : Lin) : Type 0 where
+  pub sum : SumKept n l.terms
+  pub number : unsigned_abs l.r ≤ 1000000
 
-pub record IsPlain (n : ℕ) (c : Con) : Type 0 where
-  pub plain : Plain n c
+-- a constraint of a model with these domains
+abbrev pub Plain : List (List (ℤ × ℤ)) → Con → Type 0
+Plain ds (con.Base (base.Lin l)) = IsPlainSum (length ds) l
+Plain ds (con.Reif (base.Lin l) r f) = IsPlainSum (length ds) l × TermIn (length ds) r × IsTruth ds r
+Plain ds (con.Element i xs c) = TermIn (length ds) i × TermsIn (length ds) xs × TermIn (length ds) c
+Plain ds (con.AllDiffExcept xs taken) = TermsIn (length ds) xs × TakenKept of_model taken
+Plain ds c = ⊥
 
-pub plain : (n : ℕ) (l : Lin) → SumKept n l.terms → unsigned_abs l.r ≤ 1000000 → IsPlain n (con.Base (base.Lin l))
-plain n l s r = record { plain = (s, r) }
+pub record IsPlain (ds : List (List (ℤ × ℤ))) (c : Con) : Type 0 where
+  pub plain : Plain ds c
 
-kept_one : (n : ℕ) (c : Con) → Plain n c → ConKept of_model n c
-kept_one n (con.Base (base.Lin l)) p = record { sum = p.0; constant = p.1 }
-kept_one n c p = absurd p
+pub plain_sum : (ds : List (List (ℤ × ℤ))) (l : Lin) → IsPlainSum (length ds) l → IsPlain ds (con.Base (base.Lin l))
+plain_sum ds l sum = record { plain = sum }
 
-truths_one : (n : ℕ) (ds : List (List (ℤ × ℤ))) (c : Con) → Plain n c → ConTruths ds c
-truths_one n ds (con.Base (base.Lin l)) p = tt
-truths_one n ds c p = absurd p
+pub plain_reif : (ds : List (List (ℤ × ℤ))) (l : Lin) (r : Term) (f : Bool) → IsPlainSum (length ds) l → TermIn (length ds) r → IsTruth ds r → IsPlain ds (con.Reif (base.Lin l) r f)
+plain_reif ds l r f sum term truth = record { plain = (sum, term, truth) }
 
-built_one : (n : ℕ) (c : Con) → Plain n c → IsBuilt c
-built_one n (con.Base (base.Lin l)) p = tt
-built_one n c p = absurd p
+pub plain_element : (ds : List (List (ℤ × ℤ))) (i : Term) (xs : List Term) (c : Term) → TermIn (length ds) i → TermsIn (length ds) xs → TermIn (length ds) c → IsPlain ds (con.Element i xs c)
+plain_element ds i xs c index members chosen = record { plain = (index, members, chosen) }
 
-pub plain_kept : (n : ℕ) (cs : List Con) → All (IsPlain n) cs → All (ConKept of_model n) cs
-plain_kept n cs plain k d h = kept_one n (slice_index_or cs k d) (plain k d h).plain
+pub plain_different : (ds : List (List (ℤ × ℤ))) (xs : List Term) (taken : List ℤ) → TermsIn (length ds) xs → TakenKept of_model taken → IsPlain ds (con.AllDiffExcept xs taken)
+plain_different ds xs taken terms values = record { plain = (terms, values) }
 
-pub plain_truths : (n : ℕ) (ds : List (List (ℤ × ℤ))) (cs : List Con) → All (IsPlain n) cs → All (ConTruths ds) cs
-plain_truths n ds cs plain k d h = truths_one n ds (slice_index_or cs k d) (plain k d h).plain
+kept_one : (ds : List (List (ℤ × ℤ))) (c : Con) → Plain ds c → ConKept of_model (length ds) c
+kept_one ds (con.Base (base.Lin l)) p = record { sum = p.sum; constant = p.number }
+kept_one ds (con.Reif (base.Lin l) r f) p = (record { sum = p.0.sum; constant = p.0.number }, p.1)
+kept_one ds (con.Element i xs c) p = p
+kept_one ds (con.AllDiffExcept xs taken) p = p
+kept_one ds c p = absurd p
 
-pub plain_built : (n : ℕ) (cs : List Con) → All (IsPlain n) cs → All IsBuilt cs
-plain_built n cs plain k d h = built_one n (slice_index_or cs k d) (plain k d h).plain
+truths_one : (ds : List (List (ℤ × ℤ))) (c : Con) → Plain ds c → ConTruths ds c
+truths_one ds (con.Base (base.Lin l)) p = tt
+truths_one ds (con.Reif (base.Lin l) r f) p = (tt, p.2)
+truths_one ds (con.Element i xs c) p = tt
+truths_one ds (con.AllDiffExcept xs taken) p = tt
+truths_one ds c p = absurd p
+
+pub plain_kept : (ds : List (List (ℤ × ℤ))) (cs : List Con) → All (IsPlain ds) cs → All (ConKept of_model (length ds)) cs
+plain_kept ds cs plain k d h = kept_one ds (slice_index_or cs k d) (plain k d h).plain
+
+pub plain_truths : (ds : List (List (ℤ × ℤ))) (cs : List Con) → All (IsPlain ds) cs → All (ConTruths ds) cs
+plain_truths ds cs plain k d h = truths_one ds (slice_index_or cs k d) (plain k d h).plain

@@ -1,7 +1,7 @@
 ghost use Rattle.std.specs.Prelude.{◌≡◌, ◌++◌, ◌∷◌, [], take, length, IfOk, All};
 ghost use Rattle.fzn_model.specs.Kept.{GoalKept};
-ghost use Rattle.dom_store.specs.Propagation.{Suits};
-ghost use Rattle.prop_engine.specs.Plans.{Plan, IsBuilt, IsFor};
+ghost use Rattle.fzn_model.specs.Booleans.{Suits};
+ghost use Rattle.prop_engine.specs.Plans.{Plan, CanHold, IsFor};
 ghost use Rattle.prop_engine.specs.Fixing.{Fixes, Tells};
 
 use crate::any::AnyProp;
@@ -20,18 +20,18 @@ pub struct Engine {
 
 impl std::marker::Model for Engine {
     ghost use Rattle.std.specs.Prelude.{All};
-    ghost use Rattle.prop_engine.specs.Plans.{Plan, IsBuilt};
+    ghost use Rattle.prop_engine.specs.Plans.{Plan, CanHold};
 
     ghost Value = { Plan };
 
     ghost view = { λ e. record { cons = e.propagators.items; goal = e.goal } };
 
-    ghost invariant = { λ e. All IsBuilt e.propagators.items };
+    ghost invariant = { λ e. All CanHold e.propagators.items };
 }
 
 /// A propagator for each constraint.
 fn propagators_of(alloc: Global, cons: &[Con]) -> Result<Vec<AnyProp>, AllocError>
-    requires { All IsBuilt cons.now }
+    requires { All CanHold cons.now }
     ensures { IfOk result (λ all. all.items ≡ cons.now) }
 {
     let mut all = Vec::new(alloc);
@@ -54,7 +54,7 @@ fn rounds(
     store: &mut Store,
 ) -> Result<Fixed, AllocError>
     requires suits { All (Suits store.old.box) propagators.old }
-    requires built { All IsBuilt propagators.old }
+    requires can_hold { All CanHold propagators.old }
     requires goal { GoalKept (length store.old.box) goal }
     ensures same { propagators.new ≡ propagators.old }
     ensures fixes { Fixes (record { cons = propagators.old; goal = goal }) below.now store.old store.new }
@@ -79,11 +79,12 @@ fn rounds(
 }
 
 impl Engine {
-    /// The engine of a model, whose constraints are of the kinds that are built.
+    /// The engine of a model.
+    #[tactic(auto, using(crate::proofs::Holding::model_held))]
     pub fn new(alloc: Global, model: &Model) -> Result<Engine, AllocError>
-        requires { All IsBuilt model.now.cons }
         ensures { IfOk result (λ e. e ≡ record { cons = model.now.cons; goal = model.now.goal }) }
     {
+        let _kept = &model.cons;
         Ok(Engine {
             propagators: propagators_of(alloc, model.cons.as_slice())?,
             goal: model.goal,

@@ -15,8 +15,10 @@
 //! What it stands on: dom_store, fzn_model, and a crate for each family of propagators. No other crate names those.
 #![tactic(auto)]
 
-// One propagator of any kind.
+// One propagator of any kind, and those of a reified base.
 mod any;
+mod reified;
+mod sides;
 
 // The goal, and rounds.
 mod engine;

@@ -1,13 +1,13 @@
 //! Rounds: the goal's cut, and then each propagator once.
 ghost use Rattle.std.specs.Prelude.{◌≡◌, ◌<◌, IfOk, All, length, slice_index_or};
 ghost use Rattle.fzn_model.specs.Kept.{GoalKept};
-ghost use Rattle.dom_store.specs.Propagation.{Suits};
-ghost use Rattle.prop_engine.specs.Plans.{IsBuilt};
+ghost use Rattle.fzn_model.specs.Booleans.{Suits};
+ghost use Rattle.prop_engine.specs.Plans.{CanHold};
 ghost use Rattle.prop_engine.specs.Fixing.{Sweeps, SweepSays, RunsAt, SaysAt, Fixes, RoundSays};
 
 use crate::any::AnyProp;
 use crate::goal::cut_goal;
-use dom_store::{Passed, Propagator, Ran, Store};
+use dom_store::{Passed, Ran, Store};
 use fzn_model::Goal;
 use std::alloc::AllocError;
 
@@ -16,6 +16,7 @@ use std::alloc::AllocError;
 fn run_one(propagators: &mut [AnyProp], at: usize, store: &mut Store) -> Result<Ran, AllocError>
     requires at { at < length propagators.old }
     requires suits { All (Suits store.old.box) propagators.old }
+    requires can_hold { All CanHold propagators.old }
     ensures same { propagators.new ≡ propagators.old }
     ensures runs { RunsAt propagators.old at store.old store.new }
     ensures says { IfOk result (SaysAt propagators.old at store.old.box store.new.box) }
@@ -24,9 +25,10 @@ fn run_one(propagators: &mut [AnyProp], at: usize, store: &mut Store) -> Result<
 }
 
 /// Runs each propagator once.
-#[tactic(auto, using(crate::proofs::Sweeping::sweeps_refl, crate::proofs::Sweeping::owed_none, crate::proofs::Sweeping::suits_next, crate::proofs::Sweeping::sweeps_next, crate::proofs::Sweeping::owed_next, crate::proofs::Sweeping::none_next, crate::proofs::Sweeping::far_next, crate::proofs::Sweeping::sweep_kept))]
+#[tactic(auto, using(crate::proofs::Sweeping::sweeps_refl, crate::proofs::Sweeping::strong_none, crate::proofs::Sweeping::suits_next, crate::proofs::Sweeping::sweeps_next, crate::proofs::Sweeping::strong_next, crate::proofs::Sweeping::none_next, crate::proofs::Sweeping::far_next, crate::proofs::Sweeping::sweep_kept))]
 fn sweep(propagators: &mut [AnyProp], store: &mut Store) -> Result<Ran, AllocError>
-    requires { All (Suits store.old.box) propagators.old }
+    requires suits { All (Suits store.old.box) propagators.old }
+    requires can_hold { All CanHold propagators.old }
     ensures same { propagators.new ≡ propagators.old }
     ensures sweeps { Sweeps propagators.old store.old store.new }
     ensures says { IfOk result (SweepSays propagators.old store.old.box store.new.box) }
@@ -50,7 +52,7 @@ pub(crate) fn round(
     store: &mut Store,
 ) -> Result<Ran, AllocError>
     requires suits { All (Suits store.old.box) propagators.old }
-    requires built { All IsBuilt propagators.old }
+    requires can_hold { All CanHold propagators.old }
     requires goal { GoalKept (length store.old.box) goal }
     ensures same { propagators.new ≡ propagators.old }
     ensures fixes { Fixes (record { cons = propagators.old; goal = goal }) below.now store.old store.new }

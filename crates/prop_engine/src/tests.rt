@@ -1,9 +1,8 @@
 ghost use Rattle.std.specs.Prelude.{◌≡◌, ◌<◌, ◌≤◌, IfOk, IsTrue, All, length, unsigned_abs};
-ghost use Rattle.fzn_model.specs.Kept.{IsValue, TermIn, SumKept, DomainKept, ConKept, ConTruths, GoalKept, IsModel, of_model};
+ghost use Rattle.fzn_model.specs.Kept.{IsValue, IsBit, IsTruth, TermIn, TermsIn, SumKept, TakenKept, DomainKept, ConKept, ConTruths, GoalKept, IsModel, of_model};
 ghost use Rattle.dom_store.specs.Views.{box_of};
-ghost use Rattle.prop_engine.specs.Plans.{IsBuilt};
 ghost use Rattle.prop_engine.specs.Laws.{plan_of};
-ghost use Rattle.prop_engine.specs.Trials.{IsPlain};
+ghost use Rattle.prop_engine.specs.Trials.{IsPlain, IsPlainSum};
 
 use crate::{Engine, Fixed};
 use dom_store::Store;
@@ -48,15 +47,48 @@ fn are_kept(sets: &[Runs]) -> bool
     sets.iter().all(|set| is_kept(set))
 }
 
+fn is_term(term: Term, count: usize) -> bool
+    ensures { IsTrue result → TermIn count term }
+{
+    match term {
+        Term::Const(value) => is_value(value),
+        Term::Var(var) => (var as usize) < count,
+    }
+}
+
+fn are_members(terms: &[Term], count: usize) -> bool
+    ensures { IsTrue result → TermsIn count terms.now }
+{
+    terms.len() <= 100 && terms.iter().all(|term| is_term(*term, count))
+}
+
+fn is_bit(run: &(i64, i64)) -> bool
+    ensures { IsTrue result → IsBit run.now.0 × IsBit run.now.1 }
+{
+    0 <= run.0 && run.0 <= 1 && 0 <= run.1 && run.1 <= 1
+}
+
+fn are_bits(set: &Runs) -> bool
+    ensures { IsTrue result → All (λ run. IsBit run.0 × IsBit run.1) set.now }
+{
+    set.runs.as_slice().iter().all(is_bit)
+}
+
+fn is_truth(term: Term, sets: &[Runs]) -> bool
+    ensures truth { IsTrue result → IsTruth sets.now term }
+    ensures term { IsTrue result → TermIn (length sets.now) term }
+{
+    match term {
+        Term::Const(value) => value == 0 || value == 1,
+        Term::Var(var) => (var as usize) < sets.len() && are_bits(&sets[var as usize]),
+    }
+}
+
 fn is_part(part: &(i64, Term), count: usize) -> bool
     ensures factor { IsTrue result → IsValue part.now.0 }
     ensures term { IsTrue result → TermIn count part.now.1 }
 {
-    is_value(part.0)
-        && match part.1 {
-            Term::Const(value) => is_value(value),
-            Term::Var(var) => (var as usize) < count,
-        }
+    is_value(part.0) && is_term(part.1, count)
 }
 
 fn are_factors(parts: &[(i64, Term)], count: usize) -> bool
@@ -77,33 +109,53 @@ fn is_sum(parts: &[(i64, Term)], count: usize) -> bool
     parts.len() <= 100 && are_factors(parts, count) && are_terms(parts, count)
 }
 
-/// A linear relation of a model over so many variables.
-#[tactic(auto, using(crate::specs::Trials::plain))]
-fn is_plain(con: &Con, count: usize) -> bool
-    ensures { IsTrue result → IsPlain count con.now }
+fn is_plain_sum(lin: &Lin, count: usize) -> bool
+    ensures { IsTrue result → IsPlainSum count lin.now }
+{
+    is_sum(lin.terms.as_slice(), count) && lin.r.unsigned_abs() <= 1_000_000
+}
+
+fn are_taken(numbers: &[i64]) -> bool
+    ensures { IsTrue result → TakenKept of_model numbers.now }
+{
+    numbers.len() <= 100 && numbers.iter().all(|number| is_value(*number))
+}
+
+/// A constraint of a model with these domains.
+#[tactic(auto, using(crate::specs::Trials::plain_sum, crate::specs::Trials::plain_reif, crate::specs::Trials::plain_element, crate::specs::Trials::plain_different))]
+fn is_plain(con: &Con, sets: &[Runs]) -> bool
+    ensures { IsTrue result → IsPlain sets.now con.now }
 {
     match con {
-        Con::Base(Base::Lin(lin)) => {
-            is_sum(lin.terms.as_slice(), count) && lin.r.unsigned_abs() <= 1_000_000
+        Con::Base(Base::Lin(lin)) => is_plain_sum(lin, sets.len()),
+        Con::Reif(Base::Lin(lin), term, _) => {
+            is_plain_sum(lin, sets.len()) && is_truth(*term, sets)
+        }
+        Con::Element(index, members, chosen) => {
+            is_term(*index, sets.len())
+                && are_members(members.as_slice(), sets.len())
+                && is_term(*chosen, sets.len())
+        }
+        Con::AllDiffExcept(members, taken) => {
+            are_members(members.as_slice(), sets.len()) && are_taken(taken.as_slice())
         }
         _ => false,
     }
 }
 
-fn are_plain(cons: &[Con], count: usize) -> bool
-    ensures { IsTrue result → All (IsPlain count) cons.now }
+fn are_plain(cons: &[Con], sets: &[Runs]) -> bool
+    ensures { IsTrue result → All (IsPlain sets.now) cons.now }
 {
-    cons.iter().all(|con| is_plain(con, count))
+    cons.iter().all(|con| is_plain(con, sets))
 }
 
-#[tactic(auto, using(crate::specs::Trials::plain_kept, crate::specs::Trials::plain_truths, crate::specs::Trials::plain_built))]
+#[tactic(auto, using(crate::specs::Trials::plain_kept, crate::specs::Trials::plain_truths))]
 fn model(doms: List<Runs>, cons: List<Con>, goal: Goal, alloc: Global) -> Model
     requires few { length doms < 100000 }
     requires kept { All DomainKept doms }
     requires count { length cons < 100000 }
-    requires plain { All (IsPlain (length doms)) cons }
+    requires plain { All (IsPlain doms) cons }
     requires goal { GoalKept (length doms) goal }
-    ensures built { All IsBuilt result.cons }
 {
     Model {
         doms,
@@ -144,7 +196,7 @@ fn is_goal(goal: Goal, count: usize) -> bool
 {
     match goal {
         Goal::Satisfy => true,
-        Goal::Minimise(term) | Goal::Maximise(term) => is_part(&(0, term), count),
+        Goal::Minimise(term) | Goal::Maximise(term) => is_term(term, count),
     }
 }
 
@@ -161,7 +213,7 @@ fn fixed(
     let doms = sets(alloc, ranges)?;
     let count = doms.as_slice().len();
     assert!(rt; count < 100_000 && are_kept(doms.as_slice()));
-    assert!(rt; cons.as_slice().len() < 100_000 && are_plain(cons.as_slice(), count));
+    assert!(rt; cons.as_slice().len() < 100_000 && are_plain(cons.as_slice(), doms.as_slice()));
     assert!(rt; is_goal(goal, count));
     let model = model(doms, cons, goal, alloc);
     let Some(mut store) = Store::new(alloc, &model)? else {
@@ -257,5 +309,159 @@ fn a_chain_is_fixed(rt: HostRuntime) -> Result<(), Fail> {
     for (var, bound) in bounds.as_slice().iter().enumerate() {
         assert_eq!(rt; *bound, (var as i64, var as i64));
     }
+    Ok(())
+}
+
+const R: Term = Term::Var(2);
+
+/// Whether the sum of x and y stands so to a number, as the term and the flag say.
+fn reified(
+    alloc: Global,
+    rel: Rel,
+    r: i128,
+    term: Term,
+    flag: bool,
+) -> Result<List<Con>, AllocError> {
+    let terms = List::from_slice(alloc, &[(1, X), (1, Y)])?;
+    let mut cons = List::new(alloc);
+    cons.push(Con::Reif(Base::Lin(Lin { rel, terms, r }), term, flag))?;
+    Ok(cons)
+}
+
+/// A relation of the sum of x and y, the number, the term and the flag.
+type Reified = (Rel, i128, Term, bool);
+
+/// What is reified, the ranges before, what is answered, and the ranges after.
+type Case<'a> = (Reified, &'a [(i64, i64)], Fixed, &'a [(i64, i64)]);
+
+fn is_case(rt: &impl Abort, alloc: Global, case: &Case<'_>) -> Result<bool, Fail> {
+    let ((rel, r, term, flag), before, answer, after) = case;
+    let cons = reified(alloc, *rel, *r, *term, *flag)?;
+    let (said, bounds) = fixed(rt, alloc, before, cons, Goal::Satisfy, 1)?;
+    Ok(said == *answer && bounds.as_slice() == *after)
+}
+
+/// Where the term is fixed, the sum has the strength of the relation or of its opposite; where the sum tells, so has the
+/// term.
+#[test]
+fn reified_sums_are_fixed(rt: HostRuntime) -> Result<(), Fail> {
+    let alloc = rt.alloc();
+    let at_most = (Rel::Le, 3, R, false);
+    assert!(rt;
+        is_case(
+            &rt,
+            alloc,
+            &(
+                at_most,
+                &[(0, 3), (2, 3), (1, 1)],
+                Fixed::Kept,
+                &[(1, 3), (2, 3), (1, 1)]
+            )
+        )?
+    );
+    assert!(rt;
+        is_case(
+            &rt,
+            alloc,
+            &(
+                at_most,
+                &[(0, 3), (2, 3), (0, 0)],
+                Fixed::Kept,
+                &[(0, 1), (2, 3), (0, 0)]
+            )
+        )?
+    );
+    assert!(rt;
+        is_case(
+            &rt,
+            alloc,
+            &(
+                at_most,
+                &[(0, 1), (0, 2), (0, 1)],
+                Fixed::Kept,
+                &[(0, 1), (0, 2), (0, 0)]
+            )
+        )?
+    );
+    assert!(rt;
+        is_case(
+            &rt,
+            alloc,
+            &(
+                at_most,
+                &[(0, 1), (0, 2), (1, 1)],
+                Fixed::Empty,
+                &[(0, 1), (0, 2), (1, 1)]
+            )
+        )?
+    );
+    let equal = (Rel::Eq, 6, R, true);
+    assert!(rt;
+        is_case(
+            &rt,
+            alloc,
+            &(
+                equal,
+                &[(0, 3), (2, 3), (1, 1)],
+                Fixed::Kept,
+                &[(3, 3), (3, 3), (1, 1)]
+            )
+        )?
+    );
+    assert!(rt;
+        is_case(
+            &rt,
+            alloc,
+            &(
+                equal,
+                &[(3, 3), (2, 3), (0, 0)],
+                Fixed::Kept,
+                &[(3, 3), (2, 2), (0, 0)]
+            )
+        )?
+    );
+    let differs = (Rel::Ne, 6, R, true);
+    assert!(rt;
+        is_case(
+            &rt,
+            alloc,
+            &(
+                differs,
+                &[(0, 3), (2, 3), (0, 0)],
+                Fixed::Kept,
+                &[(3, 3), (3, 3), (0, 0)]
+            )
+        )?
+    );
+    Ok(())
+}
+
+#[test]
+fn elements_are_fixed(rt: HostRuntime) -> Result<(), Fail> {
+    let alloc = rt.alloc();
+    let members = List::from_slice(alloc, &[Term::Const(5), Term::Const(7), Term::Const(9)])?;
+    let mut cons = List::new(alloc);
+    cons.push(Con::Element(X, members, Y))?;
+    let (answer, bounds) = fixed(&rt, alloc, &[(0, 4), (6, 8)], cons, Goal::Satisfy, 1)?;
+    assert!(rt; answer == Fixed::Kept && bounds.as_slice() == [(2, 2), (7, 7)].as_slice());
+    Ok(())
+}
+
+/// Three values of two numbers can't differ in pairs.
+#[test]
+fn too_many_members_are_empty(rt: HostRuntime) -> Result<(), Fail> {
+    let alloc = rt.alloc();
+    let members = List::from_slice(alloc, &[X, Y, R])?;
+    let mut cons = List::new(alloc);
+    cons.push(Con::AllDiffExcept(members, List::new(alloc)))?;
+    let (answer, _) = fixed(
+        &rt,
+        alloc,
+        &[(1, 2), (1, 2), (1, 2)],
+        cons,
+        Goal::Satisfy,
+        1,
+    )?;
+    assert_eq!(rt; answer, Fixed::Empty);
     Ok(())
 }

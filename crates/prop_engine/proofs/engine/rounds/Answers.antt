@@ -1,7 +1,7 @@
 use Rattle.std.proofs.Common.{List, sym, subst}
 use Rattle.std.specs.Prelude.{All}
 use Rattle.fzn_model.specs.declared.con.Con.{Con}
-use Rattle.dom_store.specs.Propagation.{Suits}
+use Rattle.fzn_model.specs.Booleans.{Suits}
 use Rattle.prop_engine.proofs.Rounding.{suits_fixed}
 use Rattle.prop_engine.proofs.engine.rounds.Goals as goal
 

@@ -1,7 +1,7 @@
 use Rattle.std.proofs.Common.{◌<◌, ◌∙◌, length, rules}
 use Rattle.dom_store.specs.declared.propagator.Ran.TheVariants.{Kept}
 use Rattle.prop_engine.specs.Fixing.{SaysAt}
-use Rattle.prop_engine.proofs.Sweeping.{sweeps_next, owed_next}
+use Rattle.prop_engine.proofs.Sweeping.{sweeps_next, strong_next}
 use Rattle.prop_engine.proofs.rounds.sweep.Goals as goal
 
 pub returns-in_err-run_one-clause-sweeps : goal.returns-in_err-run_one-clause-sweeps
@@ -26,5 +26,5 @@ loop-at-preserved c =
     record {
       same = c.run_one.ensures.same ∙ c.loop-at.invariant.same;
       sweeps = sweeps_next c.args.propagators.now c.loop-at.propagators c.loop-at.at c.args.store.now c.loop-at.store c.run_one.new.store c.loop-at.invariant.same inside c.loop-at.invariant.sweeps c.run_one.ensures.runs;
-      owed = owed_next c.args.propagators.now c.loop-at.propagators c.loop-at.at c.args.store.now c.loop-at.store c.run_one.new.store c.loop-at.invariant.same inside c.loop-at.invariant.sweeps c.run_one.ensures.runs says c.loop-at.invariant.owed;
+      owed = strong_next c.args.propagators.now c.loop-at.propagators c.loop-at.at c.args.store.now c.loop-at.store c.run_one.new.store c.loop-at.invariant.same inside c.loop-at.invariant.sweeps c.run_one.ensures.runs says c.loop-at.invariant.owed;
     }

@@ -1,11 +1,11 @@
 use Rattle.std.proofs.Common.{◌≡◌}
 use Rattle.prop_engine.specs.Fixing.{Sweeps}
-use Rattle.prop_engine.proofs.Sweeping.{OwedBelow}
+use Rattle.prop_engine.proofs.Sweeping.{StrongBelow}
 use Rattle.prop_engine.proofs.rounds.sweep.Given as goal
 
 abbrev pub invariant-loop-at : goal.invariant-loop-at
 invariant-loop-at l = record {
   same : l.propagators ≡ l.fn.propagators;
   sweeps : Sweeps l.fn.propagators l.fn.store l.store;
-  owed : OwedBelow l.fn.propagators l.fn.store.box l.store.box l.at;
+  owed : StrongBelow l.fn.propagators l.fn.store.box l.store.box l.at;
 }

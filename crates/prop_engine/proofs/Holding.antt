@@ -1,0 +1,32 @@
+-- An engine can hold each constraint of a model.
+use Rattle.std.proofs.Common.{ℕ, ◌<◌, ◌≤◌, List, length, get_or, ℤ, arith}
+use Rattle.std.specs.Prelude.{All}
+use Rattle.fzn_model.specs.declared.base.Base.{Base}
+use Rattle.fzn_model.specs.declared.base.Base.TheVariants as base
+use Rattle.fzn_model.specs.declared.con.Con.{Con}
+use Rattle.fzn_model.specs.declared.con.Con.TheVariants as con
+use Rattle.fzn_model.specs.Parts.{Parts}
+use Rattle.fzn_model.specs.Kept.{BaseKept, ConKept, of_model, IsModel}
+use Rattle.prop_engine.specs.Plans.{CanTurn, CanHold}
+
+turns : (n : ℕ) (b : Base) → BaseKept of_model n b → CanTurn b
+turns n (base.Lin l) kept = (kept.sum.factors, kept.constant)
+turns n (base.Clause c) kept = tt
+turns n (base.Member m) kept = tt
+
+holds : (n : ℕ) (c : Con) → ConKept of_model n c → CanHold c
+holds n (con.Base b) kept = tt
+holds n (con.Reif b r f) kept = turns n b kept.0
+holds n (con.Times a b c) kept = tt
+holds n (con.Abs a b) kept = tt
+holds n (con.Div a b c) kept = tt
+holds n (con.Mod a b c) kept = tt
+holds n (con.Greatest m xs) kept = tt
+holds n (con.Least m xs) kept = tt
+holds n (con.Element i xs c) kept = tt
+holds n (con.AllDiffExcept xs taken) kept = tt
+holds n (con.CumulUsed tasks used b) kept = tt
+holds n (con.Table xs rows) kept = tt
+
+pub model_held : (m : Parts) → IsModel m → All CanHold m.cons
+model_held m model k d h = holds (length m.doms) (get_or m.cons k d) (model.cons k d h)
