@@ -1,0 +1,14 @@
+pub mod Values
+pub mod Sums
+pub mod Terms
+pub mod Products
+pub mod LinLaw
+pub mod ClauseLaw
+pub mod Members
+pub mod MemberLaw
+pub mod PlainLaw
+pub mod Gathering
+pub mod Lefts
+pub mod Testing
+pub mod SuitLaw
+pub mod OpenLaw

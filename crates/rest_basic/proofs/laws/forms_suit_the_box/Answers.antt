@@ -1,0 +1,5 @@
+use Rattle.rest_basic.proofs.SuitLaw.{suit_law}
+use Rattle.rest_basic.proofs.laws.forms_suit_the_box.Goals as goal
+
+pub returns : goal.returns
+returns c = suit_law

@@ -1,0 +1,4 @@
+pub mod Forms
+pub mod Says
+pub mod Turning
+pub mod Gathered
