@@ -1,0 +1,7 @@
+pub mod Equal
+pub mod Inside
+pub mod Amounts
+pub mod Labels
+pub mod Lawful
+pub mod Counting
+pub mod Injective

@@ -1,0 +1,5 @@
+use Rattle.rest_key.proofs.Lawful.{dominates_includes}
+use Rattle.rest_key.proofs.laws.dominance_is_inclusion.Goals as goal
+
+pub returns : goal.returns
+returns c = dominates_includes

@@ -1,0 +1,5 @@
+use Rattle.rest_key.proofs.Equal.{costs_decide}
+use Rattle.rest_key.proofs.same.same_cost.Goals as goal
+
+pub returns : goal.returns
+returns c = costs_decide _ _ _ c.eq.ensures

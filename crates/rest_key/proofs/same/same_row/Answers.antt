@@ -1,0 +1,5 @@
+use Rattle.rest_key.proofs.Equal.{numbers_decide}
+use Rattle.rest_key.proofs.same.same_row.Goals as goal
+
+pub returns : goal.returns
+returns c = numbers_decide _ _ _ c.eq.ensures

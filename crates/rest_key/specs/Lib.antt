@@ -1,0 +1,8 @@
+pub mod Weaker
+pub mod Dominance
+pub mod Words
+pub mod Digest
+pub mod Comparing
+pub mod Counts
+pub mod Parts
+pub mod Left

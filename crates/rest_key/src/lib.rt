@@ -1,0 +1,51 @@
+//! Dominance of residual problems, and their words and digests.
+//!
+//! What it is for: a cache of residual problems. One that was solved before answers for another that has the same words,
+//! and bounds the cost of each that it dominates. The two digests find candidates: `near` those with the same words, `far`
+//! those that may dominate.
+//!
+//! What contracts see: a residual problem as the record of its parts, as in fzn_model; [`RestWords`] as the list of the
+//! words that are left.
+//!
+//! What it promises: [`weaker`] is exactly `Weaker` (`specs/Weaker.antt`), kind by kind, and [`dominates`] exactly
+//! `Dominates` (`specs/Dominance.antt`). [`words`] are the words of `specs/Words.antt`, [`count`] is how many there are,
+//! and [`near`] and [`far`] are FNV-1a digests (`specs/Digest.antt`) of all of them and of those that dominance leaves
+//! alone. The laws: a weaker constraint holds wherever the other does; a dominating problem includes the other;
+//! problems with the same words are the same.
+//!
+//! What it costs: no call takes memory. Words and digests take a step a word, `count` one for each domain and constraint.
+//! `weaker` and `dominates` take about a step a word and a binary search for each run, label and used amount; only
+//! literals, taken values, rows and overlapping used amounts are compared in pairs.
+//!
+//! What it stands on: fzn_model alone.
+#![tactic(auto)]
+
+// Dominance: of constraints, part by part, and of residual problems.
+mod dominance;
+mod rows;
+mod same;
+mod sets;
+mod used;
+mod weakness;
+
+// Words, one by one, how many, and their digests.
+mod counts;
+mod digest;
+mod few;
+mod fields;
+mod items;
+mod rest_words;
+
+// What follows from the definitions.
+mod laws;
+#[cfg(test)]
+mod tests;
+
+pub use counts::count;
+pub use digest::{far, near};
+pub use dominance::dominates;
+pub use laws::{
+    dominance_is_inclusion, equal_words_are_equal_problems, weaker_holds_where_the_other_does,
+};
+pub use rest_words::{RestWords, words};
+pub use weakness::weaker;
