@@ -3,3 +3,4 @@ pub mod Distinct
 pub mod Moments
 pub mod Wider
 pub mod Tops
+pub mod Reaching

@@ -1,4 +1,5 @@
 pub mod Sets
+pub mod Reached
 pub mod Meaning
 pub mod Parts
 pub mod Solutions

@@ -1,5 +1,6 @@
-ghost use Rattle.std.specs.Prelude.{[], ◌≡◌, ◌↔◌, ◌<◌, ◌≤ℤ◌, ℤ, IsTrue, IfOk, length};
-ghost use Rattle.fzn_model.specs.Sets.{IsIn, IsWithin, AreRuns, low_of, high_of};
+ghost use Rattle.std.specs.Prelude.{[], ◌≡◌, ◌↔◌, ◌<◌, ◌≤ℤ◌, ◌<ℤ◌, ℤ, IsTrue, IfOk, length};
+ghost use Rattle.fzn_model.specs.Sets.{IsIn, AreRuns, low_of, high_of};
+ghost use Rattle.fzn_model.specs.Reached.{IsFirstReaching};
 
 use crate::list::List;
 use std::alloc::{AllocError, Global};
@@ -24,19 +25,48 @@ impl Model for Runs {
     ghost invariant = { λ set. AreRuns set.runs };
 }
 
-#[tactic(auto, unfolding(crate::specs::Sets::IsWithin))]
-fn is_within(run: &(i64, i64), value: i64) -> bool
-    ensures { IsTrue result ↔ IsWithin run.now value }
+/// Whether the run ends below the value.
+fn ends_below(run: &(i64, i64), value: &i64) -> bool
+    ensures { IsTrue result ↔ (run.now.1 <ℤ value.now) }
 {
-    run.0 <= value && value <= run.1
+    run.1 < *value
+}
+
+/// Whether the run begins at the value or below it.
+fn begins_by(run: &(i64, i64), value: &i64) -> bool
+    ensures { IsTrue result ↔ (run.now.0 ≤ℤ value.now) }
+{
+    run.0 <= *value
+}
+
+/// The place of the first run that ends at the value or above it, or the number of runs, by halves.
+fn first_reaching(runs: &[(i64, i64)], value: &i64) -> usize
+    requires { AreRuns runs.now }
+    ensures { IsFirstReaching runs.now value.now result }
+{
+    let mut first = 0;
+    let mut end = runs.len();
+    while first < end {
+        let middle = first + (end - first) / 2;
+        if ends_below(&runs[middle], value) {
+            first = middle + 1;
+        } else {
+            end = middle;
+        }
+    }
+    first
 }
 
 /// Whether the value lies in one of the runs.
-#[tactic(auto, unfolding(crate::specs::Sets::IsIn))]
-fn in_runs(runs: &[(i64, i64)], value: i64) -> bool
-    ensures { IsTrue result ↔ IsIn runs.now value }
+fn in_runs(runs: &[(i64, i64)], value: &i64) -> bool
+    requires { AreRuns runs.now }
+    ensures { IsTrue result ↔ IsIn runs.now value.now }
 {
-    runs.iter().any(|run| is_within(run, value))
+    let place = first_reaching(runs, value);
+    if place == runs.len() {
+        return false;
+    }
+    begins_by(&runs[place], value)
 }
 
 fn low_end(run: &(i64, i64)) -> i64
@@ -74,11 +104,19 @@ fn greatest(runs: &[(i64, i64)]) -> i64
 }
 
 impl Runs {
-    /// Whether the value is in the set.
+    /// Whether the value is in the set. As many steps as the logarithm of the number of runs.
     pub fn contains(&self, value: i64) -> bool
         ensures { IsTrue result ↔ IsIn self.now value }
     {
-        in_runs(self.runs.as_slice(), value)
+        in_runs(self.runs.as_slice(), &value)
+    }
+
+    /// The place of the first run that ends at the value or above it, or the number of runs. As many steps as the
+    /// logarithm of that number.
+    pub fn first_reaching(&self, value: &i64) -> usize
+        ensures { IsFirstReaching self.now value.now result }
+    {
+        first_reaching(self.runs.as_slice(), value)
     }
 
     /// Whether the set is empty.

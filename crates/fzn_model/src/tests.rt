@@ -667,5 +667,44 @@ fn sets(rt: HostRuntime) -> Result<(), Fail> {
         (-5, 3, false)
     );
     assert!(rt; set(rt.alloc(), &[])?.is_empty());
+    assert_eq!(rt;
+        (
+            gapped.first_reaching(&-6),
+            gapped.first_reaching(&-2),
+            gapped.first_reaching(&-1),
+            gapped.first_reaching(&4),
+        ),
+        (0, 0, 1, 2)
+    );
+    Ok(())
+}
+
+/// Whether the base holds under these values of three variables.
+fn base_holds(base: &Base, values: &[i64; 3]) -> bool {
+    is_base(base) && base.holds(values)
+}
+
+#[test]
+fn copies(rt: HostRuntime) -> Result<(), Fail> {
+    let sum = lin(rt.alloc(), Rel::Le, &[(2, A)], 5)?.copy(rt.alloc())?;
+    assert!(rt; base_holds(&sum, &[2, 0, 0]) && !base_holds(&sum, &[3, 0, 0]));
+    let literals = clause(rt.alloc(), &[A], &[B])?.copy(rt.alloc())?;
+    assert!(rt; base_holds(&literals, &[1, 1, 0]) && !base_holds(&literals, &[0, 1, 0]));
+    let among = member(rt.alloc(), A, &[(1, 2)])?.copy(rt.alloc())?;
+    assert!(rt; base_holds(&among, &[2, 0, 0]) && !base_holds(&among, &[3, 0, 0]));
+    Ok(())
+}
+
+#[test]
+fn opposites(rt: HostRuntime) -> Result<(), Fail> {
+    let sum = Lin {
+        rel: Rel::Le,
+        terms: list(rt.alloc(), &[(2, A)])?,
+        r: 5,
+    };
+    let other = sum.opposite(rt.alloc())?;
+    assert!(rt;
+        other.rel == Rel::Le && other.r == -6 && other.terms.as_slice() == [(-2, A)].as_slice()
+    );
     Ok(())
 }

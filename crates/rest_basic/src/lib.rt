@@ -13,7 +13,7 @@
 //!
 //! What it costs: one pass over the constraint for each of its bounds, tests and parts, and memory for what is left. For a
 //! set it cuts off the runs at the bounds of a variable without a gap; of a variable with a bitmap it goes over the
-//! numbers between the bounds, at most 1,024, and asks the set for each.
+//! numbers between the bounds, at most 1,024, and looks each up in the set by halves.
 //!
 //! What it stands on: fzn_model for constraints and views.
 #![tactic(auto)]

@@ -16,12 +16,6 @@ AreRunsWithin other runs = All (RunWithin other) runs
 unfoldable pub IsRun : ℤ × ℤ → Type 0
 IsRun run = run.0 ≤ℤ run.1
 
--- the runs before the place end below the value, and no others
-pub record IsFirstReaching (runs : List (ℤ × ℤ)) (value : ℤ) (place : ℕ) : Type 0 where
-  pub bound : place ≤ length runs
-  pub before : (k : ℕ) (d : ℤ × ℤ) → k < place → (slice_index_or runs k d).1 <ℤ value
-  pub after : (k : ℕ) (d : ℤ × ℤ) → place ≤ k → k < length runs → value ≤ℤ (slice_index_or runs k d).1
-
 -- the first run has both ends of the second
 unfoldable pub Encloses : ℤ × ℤ → ℤ × ℤ → Type 0
 Encloses outer run = (outer.0 ≤ℤ run.0) × (run.1 ≤ℤ outer.1)

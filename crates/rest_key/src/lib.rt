@@ -14,13 +14,15 @@
 //! problems with the same words are the same.
 //!
 //! What it costs: no call takes memory. Words and digests take a step a word, `count` one for each domain and constraint.
-//! `weaker` and `dominates` take about a step a word and a binary search for each run, label and used amount; only
-//! literals, taken values, rows and overlapping used amounts are compared in pairs.
+//! `weaker` and `dominates` take about a step a word and a binary search for each run, label and used amount. Literals,
+//! taken values and rows take a step each where both lists have them in the same order, as the rests of one model do, and
+//! are compared in pairs only else; so are used amounts that overlap.
 //!
 //! What it stands on: fzn_model alone.
 #![tactic(auto)]
 
 // Dominance: of constraints, part by part, and of residual problems.
+mod among;
 mod dominance;
 mod rows;
 mod same;

@@ -1,45 +1,14 @@
 ghost use Rattle.std.specs.Prelude.{◌↔◌, ◌≡◌, IsTrue};
-ghost use Rattle.rest_key.specs.Weaker.{IsAmong, AreAmong, WeakerLin, WeakerBase, WeakerCapacity, Weaker};
+ghost use Rattle.rest_key.specs.Weaker.{WeakerLin, WeakerBase, WeakerCapacity, Weaker};
 ghost use Rattle.rest_key.specs.Comparing.{CanCompare, CapacityKept};
 ghost use Rattle.fzn_model.specs.Kept.{UsedKept, of_call};
 
+use crate::among::{are_numbers_among, are_terms_among};
 use crate::rows::are_rows_within;
 use crate::same::{same_base, same_parts, same_tasks, same_terms};
 use crate::sets::is_set_within;
 use crate::used::{leaves_as_much, uses_no_more};
 use fzn_model::{Base, Con, Lin, Rel, Term, Used};
-
-#[tactic(auto, using(crate::proofs::Equal::term_decides), unfolding(crate::specs::Weaker::IsAmong))]
-fn is_term_among(term: Term, others: &[Term]) -> bool
-    ensures { IsTrue result ↔ IsAmong others.now term }
-{
-    others.contains(&term)
-}
-
-#[tactic(auto, unfolding(crate::specs::Weaker::IsAmong))]
-fn is_number_among(number: i64, others: &[i64]) -> bool
-    ensures { IsTrue result ↔ IsAmong others.now number }
-{
-    others.contains(&number)
-}
-
-/// Whether each of the first terms is one of the second. As many steps as there are pairs of terms, at most.
-#[tactic(auto, unfolding(crate::specs::Weaker::AreAmong))]
-fn are_terms_among(terms: &[Term], others: &[Term]) -> bool
-    ensures { IsTrue result ↔ AreAmong terms.now others.now }
-{
-    terms.iter().all(|term| is_term_among(*term, others))
-}
-
-/// Whether each of the first numbers is one of the second. As many steps as there are pairs of numbers, at most.
-#[tactic(auto, unfolding(crate::specs::Weaker::AreAmong))]
-fn are_numbers_among(numbers: &[i64], others: &[i64]) -> bool
-    ensures { IsTrue result ↔ AreAmong numbers.now others.now }
-{
-    numbers
-        .iter()
-        .all(|number| is_number_among(*number, others))
-}
 
 /// Whether the first linear relation has the same terms and no lesser number, or the same one.
 fn is_lin_weaker(lin: &Lin, other: &Lin) -> bool

@@ -1,6 +1,11 @@
-use Rattle.std.proofs.Common.{arith}
+use Rattle.std.proofs.Common.{arith, ap, length, subst}
+use Rattle.fzn_model.specs.Sets.{AreRuns}
 use Rattle.rest_key.proofs.Inside.{within_some}
 use Rattle.rest_key.proofs.sets.is_run_within.Goals as goal
 
-pub returns-then-place-other : goal.returns-then-place-other
-returns-then-place-other c = (λ h. (cc), λ w. absurd (omega (arith, within_some _ _ _ c.requires.runs c.requires.ends c.first_reaching-place.ensures w)))
+pub returns-then-place-runs : goal.returns-then-place-runs
+returns-then-place-runs c =
+    let same = ap length c.as_slice-runs.ensures in
+    let seen = ap length c.other.view_is in
+    let are : AreRuns c.args.other.now = subst AreRuns c.other.view_is c.other.invariant in
+    (λ h. (cc), λ w. absurd (omega (arith, same, seen, c.if-place-runs.true, within_some _ _ _ are c.requires c.first_reaching-place.ensures w)))

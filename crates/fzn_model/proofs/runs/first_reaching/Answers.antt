@@ -1,6 +1,6 @@
 use Rattle.std.proofs.Common.{arith}
-use Rattle.rest_key.proofs.Inside.{reach_more, reach_less}
-use Rattle.rest_key.proofs.sets.first_reaching.Goals as goal
+use Rattle.fzn_model.proofs.Reaching.{reach_more, reach_less}
+use Rattle.fzn_model.proofs.runs.first_reaching.Goals as goal
 
 pub loop-first-preserved-then-ends_below : goal.loop-first-preserved-then-ends_below
 loop-first-preserved-then-ends_below c = record {
