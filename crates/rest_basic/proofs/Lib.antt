@@ -9,6 +9,5 @@ pub mod MemberLaw
 pub mod PlainLaw
 pub mod Gathering
 pub mod Lefts
-pub mod Testing
 pub mod SuitLaw
 pub mod OpenLaw

@@ -38,8 +38,6 @@ mod reified;
 
 // What holds of forms.
 mod laws;
-#[cfg(test)]
-mod tests;
 
 pub use base::{empty_clause, of_truth, reduce_lin};
 pub use laws::{forms_mean_the_same, forms_name_open_variables, forms_suit_the_box};

@@ -1,6 +1,6 @@
 -- The form that a constraint has in a box, for the kinds over lists: fixed variables are their values, and what the domains
 -- settle is left out. It is this project's own.
-use Rattle.std.specs.Prelude.{◌≡◌, ℕ, zero, suc, ◌+◌, ◌*◌, ◌/◌, ◌<◌, Bool, true, false, not, ◌&&◌, ◌||◌, if◌then◌else◌, nat_lt, List, [], ◌∷◌, ◌++◌, map, filter, fold, length, slice_index_or, slice_range, ℤ, pos, negsuc, ◌+ℤ◌, ◌-ℤ◌, ◌≤ℤ◌, ◌<ℤ◌, int_lt, int_le, All, AllPairs, ⊤}
+use Rattle.std.specs.Prelude.{◌≡◌, ℕ, zero, suc, ◌+◌, ◌*◌, ◌/◌, ◌<◌, Bool, true, false, not, ◌&&◌, ◌||◌, if◌then◌else◌, nat_lt, List, [], ◌∷◌, ◌++◌, map, filter, fold, length, slice_index_or, slice_range, ℤ, pos, negsuc, ◌+ℤ◌, ◌≤ℤ◌, ◌<ℤ◌, int_lt, int_le, All, AllPairs, ⊤}
 use Rattle.std.specs.Int.{int_min, int_max}
 use Rattle.std.specs.Bool.{MatchBool}
 use Rattle.std.specs.Ordering.{int_eq, int_cmp}
@@ -15,7 +15,7 @@ use Rattle.fzn_model.specs.declared.cumulative.Used.{Used}
 use Rattle.fzn_model.specs.declared.con.Con.{Con}
 use Rattle.fzn_model.specs.declared.con.Con.TheVariants as con
 use Rattle.fzn_model.specs.Meaning.{amount_at}
-use Rattle.fzn_model.specs.Bounds.{term_low, term_high, is_open, sum_of}
+use Rattle.fzn_model.specs.Bounds.{term_low, term_high, is_open}
 use Rattle.rest_basic.specs.Forms.{settled, open_terms, any_open, term_values, empty_clause, of_form, of_truth, form_of_lin}
 use Rattle.rest_basic.specs.declared.reduced.Reduced.{Reduced}
 use Rattle.rest_basic.specs.declared.reduced.Reduced.TheVariants as reduced
@@ -186,15 +186,16 @@ some_negative box ks = list_any (λ k. is_negative box k.d || is_negative box k.
 unfoldable pub peak : List Used → ℤ
 peak us = fold int_max (pos 0) (map (λ u. amount_at us u.from) us)
 
+-- the sum of the greatest uses
+abbrev pub sum_of_uses : List (List ℤ) → List CumTask → ℤ
+sum_of_uses box [] = pos 0
+sum_of_uses box (k ∷ ks) = term_high box k.r +ℤ sum_of_uses box ks
+
 -- each length and use is at least 0, and what is used with all that tasks can use is at most the least capacity
 unfoldable pub always_fits : List (List ℤ) → List CumTask → List Used → Term → Bool
 always_fits box ks used b =
     list_all (λ k. int_le (pos 0) (term_low box k.d) && int_le (pos 0) (term_low box k.r)) ks
-    && int_le (peak used +ℤ sum_of_uses ks) (term_low box b)
-  where
-    sum_of_uses : List CumTask → ℤ
-    sum_of_uses [] = pos 0
-    sum_of_uses (k ∷ rest) = term_high box k.r +ℤ sum_of_uses rest
+    && int_le (peak used +ℤ sum_of_uses box ks) (term_low box b)
 
 -- no task is open, nor the capacity
 abbrev pub all_fixed : List (List ℤ) → List CumTask → Term → Bool

@@ -1,0 +1,44 @@
+-- What a store made of a model is to the model.
+use Rattle.std.proofs.Common.{◌≡◌, ℕ, zero, suc, ◌<◌, ◌⊎◌, inl, inr, List, [], ◌∷◌, ◌++◌, length, get_or, refl, sym, ap, subst, ◌∙◌, arith, ℤ, pos}
+use Rattle.std.specs.Prelude.{All, Contains, Option, IsSome}
+use Rattle.std.proofs.Math.ListN.{get_or-map}
+use Rattle.fzn_model.specs.Sets.{IsIn, IsWithin}
+use Rattle.fzn_model.specs.Parts.{Parts}
+use Rattle.int_domain.specs.Values.{values_of, range}
+use Rattle.int_domain.proofs.Members.{Has, has_from_contains, has_range}
+use Rattle.dom_store.specs.Stores.{HasEmpty}
+use Rattle.dom_store.specs.Views.{box_of, box_count}
+use Rattle.rest_global.specs.Projection.{LiesWithin}
+
+-- no domain is empty
+not_empty : (d : List (ℤ × ℤ)) → (d ≡ [] → ⊥) → 0 < length d
+not_empty [] some = absurd (some refl)
+not_empty (run ∷ runs) some = omega arith
+
+pub none_empty : (ds : List (List (ℤ × ℤ))) → (HasEmpty ds → ⊥) → All (λ d. 0 < length d) ds
+none_empty ds full k d h = not_empty (get_or ds k d) (λ e. full (k, get_or ds k d, h, get_or_same ds k d h, e))
+  where
+    get_or_same : (xs : List (List (ℤ × ℤ))) (k : ℕ) (d : List (ℤ × ℤ)) → k < length xs → get_or xs k (get_or xs k d) ≡ get_or xs k d
+    get_or_same [] k d h = absurd (omega (arith, h))
+    get_or_same (x ∷ xs) zero d h = refl
+    get_or_same (x ∷ xs) (suc k) d h = get_or_same xs k d (omega (arith, h))
+
+-- the values of a set are in it
+either : (v : ℤ) (xs ys : List ℤ) → Has v (xs ++ ys) → Has v xs ⊎ Has v ys
+either v [] ys h = inr h
+either v (x ∷ xs) ys (inl e) = inl (inl e)
+either v (x ∷ xs) ys (inr h) = elim (either v xs ys h) [ inl p ↦ inl (inr p) | inr p ↦ inr p ]
+
+value_in : (set : List (ℤ × ℤ)) (v : ℤ) → Has v (values_of set) → IsIn set v
+unfolding values_of IsIn IsWithin
+value_in [] v h = absurd h
+value_in (run ∷ runs) v h = elim (either v (range run.0 run.1) (values_of runs) h) [
+  | inl here ↦ (zero, run, omega arith, refl, has_range run.0 run.1 v here)
+  | inr later ↦ let (k, x, inside, is, within) = value_in runs v later in (suc k, x, omega (arith, inside), is, within)
+]
+
+pub lies_within : (m : Parts) (box : List (List ℤ)) → box ≡ box_of m.doms → LiesWithin box m
+lies_within m box is = rw is (record {
+  count = box_count m.doms;
+  within = λ k z has. value_in (get_or m.doms k []) z (has_from_contains _ z (subst (λ (vs : List ℤ). Contains vs z) (get_or-map values_of m.doms k []) has));
+})
