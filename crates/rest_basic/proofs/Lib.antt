@@ -4,6 +4,7 @@ pub mod Terms
 pub mod Products
 pub mod LinLaw
 pub mod ClauseLaw
+pub mod Settling
 pub mod Members
 pub mod MemberLaw
 pub mod PlainLaw

@@ -23,16 +23,12 @@ use Rattle.fzn_model.specs.Booleans.{Suits}
 use Rattle.fzn_model.specs.Opposites.{turned, negated, opposite, opposite_of}
 use Rattle.fzn_model.specs.Terms.{low_to_high}
 use Rattle.fzn_model.specs.Ends.{one_value}
-use Rattle.rest_basic.specs.Forms.{is_open_part, open_parts, some_open, is_outside, left_of, form_of_le, form_of_eq, form_of_ne, form_of_lin, any_at, any_open, open_terms, form_of_clause, term_values, in_set, all_in, none_in, set_left, form_of_member, form_of, of_form, denied, truth_is, told, reif_form, settled, of_truth, times_is, abs_is, div_is, mod_is, arith_form, plain_form}
+use Rattle.rest_basic.specs.Forms.{is_open_part, open_parts, some_open, is_outside, left_of, form_of_le, form_of_eq, form_of_ne, form_of_lin, any_at, any_open, open_terms, form_of_clause, term_values, in_set, all_in, none_in, set_left, form_of_member, form_of, of_form, denied, truth_is, told, reif_form, settled, times_is, abs_is, div_is, mod_is, arith_form, plain_form}
 use Rattle.rest_basic.specs.Says.{IsPlain, IsLeft, NamesOpen}
-use Rattle.rest_basic.specs.declared.reduced.Reduced.{Reduced}
 use Rattle.rest_basic.specs.declared.reduced.Reduced.TheVariants as reduced
 use Rattle.rest_basic.specs.declared.reduced.BaseForm.{BaseForm}
 use Rattle.rest_basic.specs.declared.reduced.BaseForm.TheVariants as form
-
-is_left : (box : List (List ℤ)) (t : Term) → is_open box t ≡ true → IsLeft box t
-is_left box (term.Const z) e = tt
-is_left box (term.Var k) e = e
+use Rattle.rest_basic.proofs.Settling.{OpenLeft, one_open, always_open, never_open, truth_open, is_left, settled_left, terms_left}
 
 -- ---- bases
 abbrev FormOpen : List (List ℤ) → BaseForm → Type 0
@@ -66,10 +62,6 @@ unfolding form_of_le form_of_eq form_of_ne
 lin_open box rel.Le ps r = one_of box (int_le (sum_high box ps) r) (holds_open box) (one_of box (int_lt r (sum_low box ps)) (fails_open box) (left_open box rel.Le ps r))
 lin_open box rel.Eq ps r = one_of box (is_outside box ps r) (fails_open box) (one_of box (some_open box ps) (left_open box rel.Eq ps r) (holds_open box))
 lin_open box rel.Ne ps r = one_of box (is_outside box ps r) (holds_open box) (one_of box (some_open box ps) (left_open box rel.Ne ps r) (fails_open box))
-
-terms_left : (box : List (List ℤ)) (ts : List Term) → All (IsLeft box) (open_terms box ts)
-unfolding open_terms
-terms_left box ts = All-weaker (λ t. is_open box t ≡ true) (IsLeft box) (is_left box) (filter (is_open box) ts) (filter_passes (is_open box) ts)
 
 clause_open : (box : List (List ℤ)) (ps ns : List Term) → OpenForm box (form_of_clause box ps ns)
 unfolding form_of_clause
@@ -114,19 +106,6 @@ base_open box (base.Clause c) sound kept = clause_open box c.pos c.neg
 base_open box (base.Member m) sound kept = member_open box m.x m.set sound kept.x
 
 -- ---- what is left
-record OpenLeft (box : List (List ℤ)) (f : Reduced) : Type 0 where
-  over : NamesOpen box f
-
-one_left : (box : List (List ℤ)) (t : Bool) {x y : Reduced} → OpenLeft box x → OpenLeft box y → OpenLeft box (if t then x else y)
-one_left box true a b = a
-one_left box false a b = b
-
-never_open : (box : List (List ℤ)) → OpenLeft box (of_form form.Fails)
-never_open box = record { over = All-nil (IsLeft box) }
-
-always_open : (box : List (List ℤ)) → OpenLeft box reduced.Holds
-always_open box = record { over = tt }
-
 of_form_open : (box : List (List ℤ)) (f : BaseForm) → FormOpen box f → OpenLeft box (of_form f)
 of_form_open box form.Holds over = always_open box
 of_form_open box form.Fails over = never_open box
@@ -151,12 +130,12 @@ denied_open box (form.Is (base.Lin l)) r s over left = record { over = opposite_
 denied_open box (form.Is (base.Clause c)) r s over left = record { over = All-cons (IsLeft box) r (base_terms (base.Clause c)) left over }
 denied_open box (form.Is (base.Member m)) r s over left = record { over = All-cons (IsLeft box) r (base_terms (base.Member m)) left over }
 
-truth_open : (box : List (List ℤ)) (r : Term) (s : Bool) → IsLeft box r → OpenLeft box (truth_is r s)
-truth_open box r s left = record { over = All-cons (IsLeft box) r [] left (All-nil (IsLeft box)) }
+truth_is_open : (box : List (List ℤ)) (r : Term) (s : Bool) → IsLeft box r → OpenLeft box (truth_is r s)
+truth_is_open box r s left = record { over = All-cons (IsLeft box) r [] left (All-nil (IsLeft box)) }
 
 told_open : (box : List (List ℤ)) (f : BaseForm) (r : Term) (s : Bool) → FormOpen box f → IsLeft box r → OpenLeft box (told f r s)
-told_open box form.Holds r s over left = truth_open box r s left
-told_open box form.Fails r s over left = truth_open box r (not s) left
+told_open box form.Holds r s over left = truth_is_open box r s left
+told_open box form.Fails r s over left = truth_is_open box r (not s) left
 told_open box (form.Is b) r s over left = record { over = All-cons (IsLeft box) r (base_terms b) left over }
 
 reif_cases : (box : List (List ℤ)) (f : BaseForm) (r : Term) (s : Bool) → FormOpen box f → (o : Bool) → is_open box r ≡ o → (t : Bool)
@@ -170,18 +149,6 @@ unfolding reif_form
 reif_open box b r s sound kept = reif_cases box (form_of box b) r s (base_open box b sound kept).over (is_open box r) refl (int_eq (term_low box r) (bit s))
 
 -- ---- arithmetic
-settled_by : (box : List (List ℤ)) (t : Term) (o : Bool) → is_open box t ≡ o → IsLeft box (settled box t)
-unfolding settled
-settled_by box t true e = rw e (is_left box t e)
-settled_by box t false e = rw e tt
-
-settled_left : (box : List (List ℤ)) (t : Term) → IsLeft box (settled box t)
-settled_left box t = settled_by box t (is_open box t) refl
-
-of_truth_open : (box : List (List ℤ)) (t : Bool) → OpenLeft box (of_truth t)
-of_truth_open box true = always_open box
-of_truth_open box false = never_open box
-
 two_left : (box : List (List ℤ)) (a b : Term) → All (IsLeft box) (settled box a ∷ settled box b ∷ [])
 two_left box a b = All-cons (IsLeft box) (settled box a) (settled box b ∷ []) (settled_left box a) (All-cons (IsLeft box) (settled box b) [] (settled_left box b) (All-nil (IsLeft box)))
 
@@ -204,10 +171,10 @@ left_names : (box : List (List ℤ)) (c : Con) → IsBox box → Suits box c →
 unfolding arith_form
 left_names box (con.Base b) sound suits plain = of_form_open box (form_of box b) (base_open box b sound suits.kept).over
 left_names box (con.Reif b r s) sound suits plain = reif_open box b r s sound suits.kept.0
-left_names box (con.Times a b c) sound suits plain = one_left box (any_open box (a ∷ b ∷ c ∷ [])) (times_open box a b c) (of_truth_open box (times_is (term_low box a) (term_low box b) (term_low box c)))
-left_names box (con.Abs a b) sound suits plain = one_left box (any_open box (a ∷ b ∷ [])) (abs_open box a b) (of_truth_open box (abs_is (term_low box a) (term_low box b)))
-left_names box (con.Div a b c) sound suits plain = one_left box (any_open box (a ∷ b ∷ c ∷ [])) (div_open box a b c) (of_truth_open box (div_is (term_low box a) (term_low box b) (term_low box c)))
-left_names box (con.Mod a b c) sound suits plain = one_left box (any_open box (a ∷ b ∷ c ∷ [])) (mod_open box a b c) (of_truth_open box (mod_is (term_low box a) (term_low box b) (term_low box c)))
+left_names box (con.Times a b c) sound suits plain = one_open box (any_open box (a ∷ b ∷ c ∷ [])) (times_open box a b c) (truth_open box (times_is (term_low box a) (term_low box b) (term_low box c)))
+left_names box (con.Abs a b) sound suits plain = one_open box (any_open box (a ∷ b ∷ [])) (abs_open box a b) (truth_open box (abs_is (term_low box a) (term_low box b)))
+left_names box (con.Div a b c) sound suits plain = one_open box (any_open box (a ∷ b ∷ c ∷ [])) (div_open box a b c) (truth_open box (div_is (term_low box a) (term_low box b) (term_low box c)))
+left_names box (con.Mod a b c) sound suits plain = one_open box (any_open box (a ∷ b ∷ c ∷ [])) (mod_open box a b c) (truth_open box (mod_is (term_low box a) (term_low box b) (term_low box c)))
 left_names box (con.Greatest _ _) sound suits plain = absurd plain
 left_names box (con.Least _ _) sound suits plain = absurd plain
 left_names box (con.Element _ _ _) sound suits plain = absurd plain

@@ -22,15 +22,16 @@ use Rattle.fzn_model.specs.Boxes.{IsBox, IsDomain, domain_at, low_value}
 use Rattle.fzn_model.specs.Bounds.{term_low, term_high, is_open, part_low, part_high, sum_of, sum_low, sum_high}
 use Rattle.fzn_model.specs.Booleans.{Suits, IsBoolean, BaseBooleans}
 use Rattle.fzn_model.specs.Opposites.{opposite, opposite_kept, opposite_small}
-use Rattle.fzn_model.specs.Terms.{has_value, has_low, has_high}
+use Rattle.fzn_model.specs.Terms.{has_value, has_high}
 use Rattle.fzn_model.specs.Ends.{low_in}
 use Rattle.fzn_model.specs.Grouping.{runs_of}
-use Rattle.rest_basic.specs.Forms.{fixed_part, fixed_sum, is_open_part, open_parts, some_open, left_of, form_of_le, form_of_eq, form_of_ne, form_of_lin, any_at, any_open, open_terms, form_of_clause, term_values, in_set, all_in, none_in, set_left, form_of_member, form_of, of_form, denied, truth_is, told, reif_form, settled, of_truth, times_is, abs_is, div_is, mod_is, arith_form, plain_form}
+use Rattle.rest_basic.specs.Forms.{fixed_part, fixed_sum, is_open_part, open_parts, some_open, left_of, form_of_le, form_of_eq, form_of_ne, form_of_lin, any_at, any_open, open_terms, form_of_clause, term_values, in_set, all_in, none_in, set_left, form_of_member, form_of, of_form, denied, truth_is, told, reif_form, settled, times_is, abs_is, div_is, mod_is, arith_form, plain_form}
 use Rattle.rest_basic.specs.Says.{IsPlain}
 use Rattle.rest_basic.specs.declared.reduced.Reduced.{Reduced}
 use Rattle.rest_basic.specs.declared.reduced.Reduced.TheVariants as reduced
 use Rattle.rest_basic.specs.declared.reduced.BaseForm.{BaseForm}
 use Rattle.rest_basic.specs.declared.reduced.BaseForm.TheVariants as form
+use Rattle.rest_basic.proofs.Settling.{FineLeft, one_fine, always_fine, never_fine, truth_fine, low_is, settled_in}
 use Rattle.rest_basic.proofs.Members.{in_first, in_later, left_has, left_runs}
 use Rattle.rest_basic.proofs.Values.{domain_of}
 
@@ -47,9 +48,6 @@ sum_small f (p ∷ ps) small =
     let here = All-head (λ (q : ℤ × Term). unsigned_abs (f q) ≤ 1000000000000) p ps small in
     let rest = sum_small f ps (All-tail (λ (q : ℤ × Term). unsigned_abs (f q) ≤ 1000000000000) p ps small) in
     omega (arith, ints, here, rest)
-
-low_is : (box : List (List ℤ)) (t : Term) → IsBox box → TermIn (length box) t → IsValue (term_low box t)
-low_is box t sound inside = has_value box t (term_low box t) sound inside (has_low box t sound inside)
 
 high_is : (box : List (List ℤ)) (t : Term) → IsBox box → TermIn (length box) t → IsValue (term_high box t)
 high_is box t sound inside = has_value box t (term_high box t) sound inside (has_high box t sound inside)
@@ -207,28 +205,6 @@ base_fine box (base.Clause c) sound kept booleans = clause_fine box c.pos c.neg 
 base_fine box (base.Member m) sound kept booleans = member_fine box m.x m.set sound kept.x
 
 -- ---- what is left
-abbrev LeftFits : List (List ℤ) → Reduced → Type 0
-LeftFits box reduced.Holds = ⊤
-LeftFits box (reduced.Is c) = Suits box c
-
-record FineLeft (box : List (List ℤ)) (f : Reduced) : Type 0 where
-  fine : LeftFits box f
-
-one_left : (box : List (List ℤ)) (t : Bool) {x y : Reduced} → FineLeft box x → FineLeft box y → FineLeft box (if t then x else y)
-one_left box true a b = a
-one_left box false a b = b
-
-never_fine : (box : List (List ℤ)) → FineLeft box (of_form form.Fails)
-never_fine box = record {
-  fine = record {
-    kept = record { pos = record { count = omega arith; terms = All-nil (TermIn (length box)) }; neg = record { count = omega arith; terms = All-nil (TermIn (length box)) } };
-    booleans = (All-nil (IsBoolean box), All-nil (IsBoolean box));
-  };
-}
-
-always_fine : (box : List (List ℤ)) → FineLeft box reduced.Holds
-always_fine box = record { fine = tt }
-
 fits_kept : (box : List (List ℤ)) (b : Base) → BaseFits box b → BaseKept of_call (length box) b × BaseBooleans box b
 fits_kept box (base.Lin l) fits = (record { sum = fits.0; constant = omega (arith, fits.1) }, tt)
 fits_kept box (base.Clause c) fits = fits
@@ -253,8 +229,8 @@ bit_small : (s : Bool) → unsigned_abs (bit s) ≤ 1
 bit_small true = omega arith
 bit_small false = omega arith
 
-truth_fine : (box : List (List ℤ)) (r : Term) (s : Bool) → TermIn (length box) r → FineLeft box (truth_is r s)
-truth_fine box r s inside = record {
+truth_is_fine : (box : List (List ℤ)) (r : Term) (s : Bool) → TermIn (length box) r → FineLeft box (truth_is r s)
+truth_is_fine box r s inside = record {
   fine = record {
     kept = record {
       sum = record {
@@ -269,8 +245,8 @@ truth_fine box r s inside = record {
 }
 
 told_fine : (box : List (List ℤ)) (f : BaseForm) (r : Term) (s : Bool) → FormFits box f → TermIn (length box) r → IsBoolean box r → FineLeft box (told f r s)
-told_fine box form.Holds r s fits inside boolean = truth_fine box r s inside
-told_fine box form.Fails r s fits inside boolean = truth_fine box r (not s) inside
+told_fine box form.Holds r s fits inside boolean = truth_is_fine box r s inside
+told_fine box form.Fails r s fits inside boolean = truth_is_fine box r (not s) inside
 told_fine box (form.Is b) r s fits inside boolean = let both = fits_kept box b fits in record { fine = record { kept = (both.0, inside); booleans = (both.1, boolean) } }
 
 low_bit : (box : List (List ℤ)) (r : Term) → IsBox box → TermIn (length box) r → IsBoolean box r → IsBit (term_low box r)
@@ -281,23 +257,11 @@ reif_fine : (box : List (List ℤ)) (b : Base) (r : Term) (s : Bool) → IsBox b
 unfolding reif_form
 reif_fine box b r s sound kept booleans inside boolean =
     let fits = (base_fine box b sound kept booleans).fine in
-    one_left box (is_open box r) (told_fine box (form_of box b) r s fits inside boolean)
-    (one_left box (int_eq (term_low box r) (bit s)) (of_form_fine box (form_of box b) fits)
+    one_fine box (is_open box r) (told_fine box (form_of box b) r s fits inside boolean)
+    (one_fine box (int_eq (term_low box r) (bit s)) (of_form_fine box (form_of box b) fits)
     (denied_fine box (form_of box b) (term.Const (term_low box r)) s fits (low_is box r sound inside) (low_bit box r sound inside boolean)))
 
 -- ---- arithmetic
-settled_by : (box : List (List ℤ)) (t : Term) → IsBox box → TermIn (length box) t → (o : Bool) → is_open box t ≡ o → TermIn (length box) (settled box t)
-unfolding settled
-settled_by box t sound inside true e = rw e inside
-settled_by box t sound inside false e = rw e (low_is box t sound inside)
-
-settled_in : (box : List (List ℤ)) (t : Term) → IsBox box → TermIn (length box) t → TermIn (length box) (settled box t)
-settled_in box t sound inside = settled_by box t sound inside (is_open box t) refl
-
-of_truth_fine : (box : List (List ℤ)) (t : Bool) → FineLeft box (of_truth t)
-of_truth_fine box true = always_fine box
-of_truth_fine box false = never_fine box
-
 times_fine : (box : List (List ℤ)) (a b c : Term) → IsBox box → TermIn (length box) a → TermIn (length box) b → TermIn (length box) c → FineLeft box (reduced.Is (con.Times (settled box a) (settled box b) (settled box c)))
 times_fine box a b c sound ia ib ic = record { fine = record { kept = (settled_in box a sound ia, settled_in box b sound ib, settled_in box c sound ic); booleans = tt } }
 
@@ -314,10 +278,10 @@ left_suits : (box : List (List ℤ)) (c : Con) → IsBox box → Suits box c →
 unfolding arith_form
 left_suits box (con.Base b) sound suits plain = of_form_fine box (form_of box b) (base_fine box b sound suits.kept suits.booleans).fine
 left_suits box (con.Reif b r s) sound suits plain = reif_fine box b r s sound suits.kept.0 suits.booleans.0 suits.kept.1 suits.booleans.1
-left_suits box (con.Times a b c) sound suits plain = one_left box (any_open box (a ∷ b ∷ c ∷ [])) (times_fine box a b c sound suits.kept.0 suits.kept.1 suits.kept.2) (of_truth_fine box (times_is (term_low box a) (term_low box b) (term_low box c)))
-left_suits box (con.Abs a b) sound suits plain = one_left box (any_open box (a ∷ b ∷ [])) (abs_fine box a b sound suits.kept.0 suits.kept.1) (of_truth_fine box (abs_is (term_low box a) (term_low box b)))
-left_suits box (con.Div a b c) sound suits plain = one_left box (any_open box (a ∷ b ∷ c ∷ [])) (div_fine box a b c sound suits.kept.0 suits.kept.1 suits.kept.2) (of_truth_fine box (div_is (term_low box a) (term_low box b) (term_low box c)))
-left_suits box (con.Mod a b c) sound suits plain = one_left box (any_open box (a ∷ b ∷ c ∷ [])) (mod_fine box a b c sound suits.kept.0 suits.kept.1 suits.kept.2) (of_truth_fine box (mod_is (term_low box a) (term_low box b) (term_low box c)))
+left_suits box (con.Times a b c) sound suits plain = one_fine box (any_open box (a ∷ b ∷ c ∷ [])) (times_fine box a b c sound suits.kept.0 suits.kept.1 suits.kept.2) (truth_fine box (times_is (term_low box a) (term_low box b) (term_low box c)))
+left_suits box (con.Abs a b) sound suits plain = one_fine box (any_open box (a ∷ b ∷ [])) (abs_fine box a b sound suits.kept.0 suits.kept.1) (truth_fine box (abs_is (term_low box a) (term_low box b)))
+left_suits box (con.Div a b c) sound suits plain = one_fine box (any_open box (a ∷ b ∷ c ∷ [])) (div_fine box a b c sound suits.kept.0 suits.kept.1 suits.kept.2) (truth_fine box (div_is (term_low box a) (term_low box b) (term_low box c)))
+left_suits box (con.Mod a b c) sound suits plain = one_fine box (any_open box (a ∷ b ∷ c ∷ [])) (mod_fine box a b c sound suits.kept.0 suits.kept.1 suits.kept.2) (truth_fine box (mod_is (term_low box a) (term_low box b) (term_low box c)))
 left_suits box (con.Greatest _ _) sound suits plain = absurd plain
 left_suits box (con.Least _ _) sound suits plain = absurd plain
 left_suits box (con.Element _ _ _) sound suits plain = absurd plain

@@ -26,10 +26,10 @@ use Rattle.rest_basic.specs.declared.reduced.Reduced.{Reduced}
 use Rattle.rest_basic.specs.declared.reduced.Reduced.TheVariants as reduced
 use Rattle.rest_basic.proofs.Terms.{value_among}
 use Rattle.rest_global.specs.Forms.{fixed_values, term_has, open_has, has_twice, share_one, is_settled, rising, taken_left, all_different_form}
-use Rattle.rest_global.proofs.Having.{alike, among_test, test_among, or_either, term_has_is}
+use Rattle.rest_global.proofs.Having.{alike, among_test, test_among, or_either, term_has_is, fixed_within}
 use Rattle.rest_global.proofs.OpenAndFixed.{fixed_terms, parted, joined, fixed_is, passed, kept, passes, fewer, mapped, from_map}
 use Rattle.rest_global.proofs.Rising.{has_first, has_later, has_cases, has_no, rising_count, rising_has}
-use Rattle.rest_global.proofs.Settling.{OpenLeft, FineLeft, never_says, one_open, always_open, never_open, terms_left, one_fine, always_fine, never_fine, open_in, fixed_within}
+use Rattle.rest_basic.proofs.Settling.{OpenLeft, FineLeft, never_says, one_open, always_open, never_open, terms_left, one_fine, always_fine, never_fine, open_in}
 
 -- ---- values that differ, by recursion
 abbrev Differ : List ℤ → Type 0

@@ -1,5 +1,5 @@
 -- The form of cumulative tasks says what they say, and names open variables alone.
-use Rattle.std.proofs.Common.{◌≡◌, List, [], ◌∷◌, ◌++◌, length, map, refl, sym, ap, subst, ◌∙◌, arith, inl, inr, ℤ, pos, ◌+ℤ◌, ◌≤ℤ◌, ◌<ℤ◌, Bool, true, false}
+use Rattle.std.proofs.Common.{◌≡◌, List, [], ◌∷◌, ◌++◌, length, map, refl, sym, ap, subst, ◌∙◌, arith, ℤ, pos, ◌+ℤ◌, ◌≤ℤ◌, ◌<ℤ◌, Bool, true, false}
 use Rattle.std.specs.Prelude.{All, filter, not, ◌&&◌, ◌||◌, ◌↔◌, if◌then◌else◌, int_le, int_lt, slice_index_or}
 use Rattle.std.specs.Bool.{MatchBool}
 use Rattle.std.specs.List.{AllByRecursion, list_any, list_all}
@@ -7,7 +7,6 @@ use Rattle.std.proofs.lemmas.Int.{ints}
 use Rattle.std.proofs.lemmas.Bool.{false≢true}
 use Rattle.std.proofs.lemmas.List.Elements.{All-cons, All-nil, All-append, All-map, recursion_from_All, All-from_recursion}
 use Rattle.fzn_model.specs.declared.term.Term.{Term}
-use Rattle.fzn_model.specs.declared.term.Term.TheVariants as term
 use Rattle.fzn_model.specs.declared.cumulative.CumTask.{CumTask}
 use Rattle.fzn_model.specs.declared.cumulative.Used.{Used}
 use Rattle.fzn_model.specs.declared.con.Con.TheVariants as con
@@ -26,18 +25,10 @@ use Rattle.rest_basic.proofs.Terms.{shut_value, settled_value}
 use Rattle.rest_global.specs.Forms.{AreRunsOf, is_open_task, open_tasks, settled_task, fixed_use, all_used, is_negative, some_negative, peak, always_fits, all_fixed, IsCumulativeLeft, IsCumulativeForm, sum_of_uses}
 use Rattle.rest_global.specs.Sweep.{part_at}
 use Rattle.rest_global.specs.Tasks.{TaskIn, is_negative_task, is_fixed_task, is_never_negative, are_never_negative}
-use Rattle.rest_basic.proofs.ClauseLaw.{has_none}
+use Rattle.rest_basic.proofs.Settling.{never_says, truth_says, settled_left}
 use Rattle.rest_global.proofs.Peaks.{below_peak, peak_least, part_small}
 use Rattle.rest_global.proofs.Sweeping.{amounts_some}
 use Rattle.rest_global.proofs.Tasks.{fits_is, or_none, task_shut, not_negative, used_amounts, tasks_in, whole_amounts}
-
--- ---- forms without tasks
-never : (θ : List ℤ) → Says (reduced.Is empty_clause) θ → ⊥
-never θ h = elim h [ inl p ↦ has_none (pos 1) θ p | inr p ↦ has_none (pos 0) θ p ]
-
-of_truth_says : (t : Bool) (P : Type 0) (θ : List ℤ) → ((t ≡ true) ↔ P) → Says (of_truth t) θ ↔ P
-of_truth_says true P θ decides = (λ h. decides.0 refl, λ h. tt)
-of_truth_says false P θ decides = (λ h. absurd (never θ h), λ h. absurd (false≢true (decides.1 h)))
 
 -- ---- tests over a list
 and_both : (a b : Bool) → (a && b) ≡ true → (a ≡ true) × (b ≡ true)
@@ -181,7 +172,7 @@ module _ (box : List (List ℤ)) (θ : List ℤ) (sound : IsBox box) (lies : InB
   -- ---- the four forms
   negative_law : (ks : List CumTask) (used : List Used) (b : Term) → TasksKept (length box) ks → some_negative box ks ≡ true → Says (reduced.Is empty_clause) θ ↔ Holds (con.CumulUsed ks used b) θ
   unfolding some_negative AreTasks
-  negative_law ks used b kept e = (λ h. absurd (never θ h), λ h. absurd (not_tasks ks (tasks_in (length box) ks kept) e (recursion_from_All (IsTask θ) ks h.0)))
+  negative_law ks used b kept e = (λ h. absurd (never_says θ h), λ h. absurd (not_tasks ks (tasks_in (length box) ks kept) e (recursion_from_All (IsTask θ) ks h.0)))
 
   fits_law : (ks : List CumTask) (used : List Used) (b : Term) → TasksKept (length box) ks → UsedKept of_call used → TermIn (length box) b → always_fits box ks used b ≡ true → Says reduced.Holds θ ↔ Holds (con.CumulUsed ks used b) θ
   unfolding are_never_negative AreTasks FitsAlways
@@ -231,7 +222,7 @@ module _ (box : List (List ℤ)) (θ : List ℤ) (sound : IsBox box) (lies : InB
       )
 
   fixed_law : (ks : List CumTask) (used : List Used) (b : Term) → TasksKept (length box) ks → UsedKept of_call used → TermIn (length box) b → some_negative box ks ≡ false → all_fixed box ks b ≡ true → Says (of_truth (int_le (peak (all_used box ks used)) (term_low box b))) θ ↔ Holds (con.CumulUsed ks used b) θ
-  fixed_law ks used b kept used_kept inside none fixed = of_truth_says (int_le (peak (all_used box ks used)) (term_low box b)) (Holds (con.CumulUsed ks used b) θ) θ (fixed_decides ks used b kept used_kept inside none fixed)
+  fixed_law ks used b kept used_kept inside none fixed = truth_says (int_le (peak (all_used box ks used)) (term_low box b)) (Holds (con.CumulUsed ks used b) θ) θ (fixed_decides ks used b kept used_kept inside none fixed)
 
   tasks_law : (ks ks' : List CumTask) → TasksKept (length box) ks → some_negative box ks ≡ false → ks' ≡ map (settled_task box) (open_tasks box ks) → AreTasks ks' θ ↔ AreTasks ks θ
   unfolding some_negative open_tasks AreTasks
@@ -275,15 +266,6 @@ unfolding IsCumulativeForm
 cumulative_law box ks used b form θ sound lies suits is = law_by box θ sound lies ks used b form suits.kept.0 suits.kept.1 suits.kept.2 (some_negative box ks) (always_fits box ks used b) (all_fixed box ks b) refl refl refl is
 
 -- ---- what the form names
-settled_by : (box : List (List ℤ)) (t : Term) (o : Bool) → is_open box t ≡ o → IsLeft box (settled box t)
-unfolding settled
-settled_by box (term.Const z) true e = rw e tt
-settled_by box (term.Var k) true e = rw e e
-settled_by box t false e = rw e tt
-
-settled_left : (box : List (List ℤ)) (t : Term) → IsLeft box (settled box t)
-settled_left box t = settled_by box t (is_open box t) refl
-
 part_left : (box : List (List ℤ)) (part : CumTask → Term) (of : CumTask → Term) (ks : List CumTask) → ((k : CumTask) → part (settled_task box k) ≡ settled box (of k)) → All (IsLeft box) (map part (map (settled_task box) ks))
 part_left box part of ks is = All-map (IsLeft box) part (map (settled_task box) ks) (All-map (λ (k : CumTask). IsLeft box (part k)) (settled_task box) ks (λ i d h. subst (λ (t : Term). IsLeft box t) (sym (is (slice_index_or ks i d))) (settled_left box (of (slice_index_or ks i d)))))
 

@@ -1,6 +1,6 @@
 -- What is left of cumulative tasks suits the box: the runs are few, since each begins where some amount begins or ends.
 use Rattle.std.proofs.Common.{◌≡◌, suc, ◌*◌, ◌^◌, ◌<◌, ◌≤◌, ◌⊎◌, List, [], ◌∷◌, ◌++◌, length, map, refl, sym, ap, subst, ◌∙◌, arith, inl, inr, ℤ, pos, ◌-ℤ◌, ◌≤ℤ◌, ◌<ℤ◌, Bool, true, false}
-use Rattle.std.specs.Prelude.{All, filter, if◌then◌else◌, int_lt, int_le, slice_index_or, unsigned_abs, ⊤}
+use Rattle.std.specs.Prelude.{All, filter, if◌then◌else◌, int_lt, int_le, slice_index_or, unsigned_abs}
 use Rattle.std.specs.Bool.{MatchBool}
 use Rattle.std.specs.Ordering.{int_eq}
 use Rattle.std.specs.List.{AllByRecursion}
@@ -8,7 +8,7 @@ use Rattle.std.proofs.lemmas.Int.{ints}
 use Rattle.std.proofs.lemmas.Bool.{false≢true}
 use Rattle.std.proofs.lemmas.Bool.Decides.{Decides-int_eq}
 use Rattle.std.proofs.lemmas.List.{length-map}
-use Rattle.std.proofs.lemmas.List.Elements.{All-append, All-filter, All-map, All-nil, recursion_from_All, All-from_recursion}
+use Rattle.std.proofs.lemmas.List.Elements.{All-append, All-filter, All-map, recursion_from_All, All-from_recursion}
 use Rattle.fzn_model.specs.declared.term.Term.{Term}
 use Rattle.fzn_model.specs.declared.cumulative.CumTask.{CumTask}
 use Rattle.fzn_model.specs.declared.cumulative.Used.{Used}
@@ -17,11 +17,12 @@ use Rattle.fzn_model.specs.declared.con.Con.TheVariants as con
 use Rattle.fzn_model.specs.Meaning.{amount_at}
 use Rattle.fzn_model.specs.Kept.{IsNear, TermIn, TasksKept, UsedKept, ConKept, of_call, of_model}
 use Rattle.fzn_model.specs.Boxes.{IsBox}
-use Rattle.fzn_model.specs.Bounds.{term_low, is_open}
+use Rattle.fzn_model.specs.Bounds.{term_low}
 use Rattle.fzn_model.specs.Booleans.{Suits}
 use Rattle.rest_basic.specs.Forms.{settled, empty_clause, of_truth}
 use Rattle.rest_basic.specs.declared.reduced.Reduced.{Reduced}
 use Rattle.rest_basic.specs.declared.reduced.Reduced.TheVariants as reduced
+use Rattle.rest_basic.proofs.Settling.{LeftSuits, settled_in, never_fine, truth_fine}
 use Rattle.rest_global.specs.Forms.{AreRunsOf, is_open_task, open_tasks, settled_task, fixed_use, all_used, some_negative, peak, always_fits, all_fixed, IsCumulativeLeft, IsCumulativeForm}
 use Rattle.rest_global.specs.Sweep.{part_at}
 use Rattle.rest_global.specs.Tasks.{TaskIn, is_fixed_task}
@@ -231,14 +232,6 @@ all_small box ks used sound kept used_kept =
     recursion_from_All IsSmallUse (used ++ map (fixed_use box) (filter (is_fixed_task box) ks)) (All-append IsSmallUse used (map (fixed_use box) (filter (is_fixed_task box) ks)) (used_small used used_kept) (All-map IsSmallUse (fixed_use box) (filter (is_fixed_task box) ks) (λ i d h. use_small box (slice_index_or (filter (is_fixed_task box) ks) i d) sound (inside i d h))))
 
 -- ---- tasks
-settled_in_by : (box : List (List ℤ)) (t : Term) → IsBox box → TermIn (length box) t → (o : Bool) → is_open box t ≡ o → TermIn (length box) (settled box t)
-unfolding settled
-settled_in_by box t sound inside true e = rw e inside
-settled_in_by box t sound inside false e = rw e (low_is_value box t sound inside)
-
-settled_in : (box : List (List ℤ)) (t : Term) → IsBox box → TermIn (length box) t → TermIn (length box) (settled box t)
-settled_in box t sound inside = settled_in_by box t sound inside (is_open box t) refl
-
 tasks_kept : (box : List (List ℤ)) (ks : List CumTask) → IsBox box → TasksKept (length box) ks → TasksKept (length box) (map (settled_task box) (open_tasks box ks))
 unfolding open_tasks
 tasks_kept box ks sound kept =
@@ -252,21 +245,7 @@ tasks_kept box ks sound kept =
     }
 
 -- ---- forms
-abbrev Fits : List (List ℤ) → Reduced → Type 0
-Fits box reduced.Holds = ⊤
-Fits box (reduced.Is c) = Suits box c
-
-never_fits : (box : List (List ℤ)) → Fits box (reduced.Is empty_clause)
-never_fits box = record {
-  kept = record { pos = record { count = omega arith; terms = All-nil (TermIn (length box)) }; neg = record { count = omega arith; terms = All-nil (TermIn (length box)) } };
-  booleans = (λ k d h. absurd (omega (arith, h)), λ k d h. absurd (omega (arith, h)));
-}
-
-truth_fits : (box : List (List ℤ)) (t : Bool) → Fits box (of_truth t)
-truth_fits box true = tt
-truth_fits box false = never_fits box
-
-left_fits : (box : List (List ℤ)) (ks : List CumTask) (used : List Used) (b : Term) (form : Reduced) → IsBox box → TasksKept (length box) ks → UsedKept of_model used → TermIn (length box) b → IsCumulativeLeft box ks used b form → Fits box form
+left_fits : (box : List (List ℤ)) (ks : List CumTask) (used : List Used) (b : Term) (form : Reduced) → IsBox box → TasksKept (length box) ks → UsedKept of_model used → TermIn (length box) b → IsCumulativeLeft box ks used b form → LeftSuits box form
 left_fits box ks used b form sound kept used_kept inside left =
     let by = left_by box ks used b form left in
     let count = all_count box ks used in
@@ -274,14 +253,14 @@ left_fits box ks used b form sound kept used_kept inside left =
       kept = (tasks_kept box ks sound kept, runs_kept (all_used box ks used) by.used_left (omega (arith, count, kept.count, used_kept.count)) (all_small box ks used sound kept used_kept) by.runs, settled_in box b sound inside);
       booleans = tt;
     } in
-    subst (λ (r : Reduced). Fits box r) (sym by.is) suits
+    subst (λ (r : Reduced). LeftSuits box r) (sym by.is) suits
 
 fits_by_tests : (box : List (List ℤ)) (ks : List CumTask) (used : List Used) (b : Term) (form : Reduced) (w : Bool) → IsBox box → TasksKept (length box) ks → UsedKept of_model used → TermIn (length box) b → (n s a : Bool)
     → MatchBool n (form ≡ reduced.Is empty_clause) (MatchBool s (form ≡ reduced.Holds) (MatchBool a (form ≡ of_truth w) (IsCumulativeLeft box ks used b form)))
-    → Fits box form
-fits_by_tests box ks used b form w sound kept used_kept inside true s a is = subst (λ (r : Reduced). Fits box r) (sym is) (never_fits box)
-fits_by_tests box ks used b form w sound kept used_kept inside false true a is = subst (λ (r : Reduced). Fits box r) (sym is) tt
-fits_by_tests box ks used b form w sound kept used_kept inside false false true is = subst (λ (r : Reduced). Fits box r) (sym is) (truth_fits box w)
+    → LeftSuits box form
+fits_by_tests box ks used b form w sound kept used_kept inside true s a is = subst (λ (r : Reduced). LeftSuits box r) (sym is) (never_fine box).fine
+fits_by_tests box ks used b form w sound kept used_kept inside false true a is = subst (λ (r : Reduced). LeftSuits box r) (sym is) tt
+fits_by_tests box ks used b form w sound kept used_kept inside false false true is = subst (λ (r : Reduced). LeftSuits box r) (sym is) (truth_fine box w).fine
 fits_by_tests box ks used b form w sound kept used_kept inside false false false is = left_fits box ks used b form sound kept used_kept inside is
 
 pub cumulative_suits : (box : List (List ℤ)) (ks : List CumTask) (used : List Used) (b : Term) (d : Con) → IsBox box → ConKept of_model (length box) (con.CumulUsed ks used b) → IsCumulativeForm box ks used b (reduced.Is d) → Suits box d

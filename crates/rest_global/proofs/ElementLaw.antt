@@ -27,7 +27,7 @@ use Rattle.rest_basic.proofs.SuitLaw.{suit_law}
 use Rattle.rest_global.specs.Forms.{term_has, members_from, member_form, element_form}
 use Rattle.rest_global.proofs.Having.{term_has_is}
 use Rattle.rest_global.proofs.Indexing.{parts_kept, member_some, member_none}
-use Rattle.rest_global.proofs.Settling.{OpenLeft, FineLeft, never_says, never_open, never_fine, is_left, settled_left, settled_in}
+use Rattle.rest_basic.proofs.Settling.{OpenLeft, FineLeft, never_says, never_open, never_fine, is_left, settled_left, settled_in}
 
 -- ---- the members that the index can have
 members_count : (box : List (List ℤ)) (i : Term) (n : ℕ) (xs : List Term) → length (members_from box i n xs) ≡ length xs

@@ -24,9 +24,9 @@ use Rattle.rest_basic.specs.declared.reduced.Reduced.TheVariants as reduced
 use Rattle.rest_basic.proofs.ClauseLaw.{has_none}
 use Rattle.rest_basic.proofs.Terms.{shut_value, settled_value}
 use Rattle.rest_global.specs.Forms.{fixed_values, one_constant, members_of_extreme, is_greatest, is_least, greatest_form, least_form}
-use Rattle.rest_global.proofs.Having.{among_test, test_among, and_both, all_test}
+use Rattle.rest_global.proofs.Having.{among_test, test_among, and_both, all_test, fixed_within}
 use Rattle.rest_global.proofs.OpenAndFixed.{AllOver, AllOf, has_either, has_splits, over_both, over_splits, none_open, one_shut, fewer}
-use Rattle.rest_global.proofs.Settling.{OpenLeft, FineLeft, truth_says, one_open, truth_open, settled_left, terms_left, one_fine, truth_fine, settled_in, open_in, fixed_within}
+use Rattle.rest_basic.proofs.Settling.{OpenLeft, FineLeft, truth_says, one_open, truth_open, settled_left, terms_left, one_fine, truth_fine, settled_in, open_in}
 
 -- ---- a choice of one of two numbers, which the other isn't beyond
 record Picks (pick : ℤ → ℤ → ℤ) (Below : ℤ → ℤ → Type 0) : Type 0 where

@@ -1,15 +1,19 @@
 -- Which values a term has, as a test.
-use Rattle.std.proofs.Common.{◌≡◌, List, [], ◌∷◌, refl, sym, subst, ◌∙◌, ℤ, Bool, true, false, inl, inr, ◌⊎◌}
-use Rattle.std.specs.Prelude.{All, Contains, ◌↔◌, ◌&&◌, ◌||◌, IsTrue}
+use Rattle.std.proofs.Common.{◌≡◌, List, [], ◌∷◌, refl, sym, subst, ◌∙◌, ℤ, Bool, true, false, inl, inr, ◌⊎◌, length}
+use Rattle.std.specs.Prelude.{All, Contains, filter, not, ◌↔◌, ◌&&◌, ◌||◌, IsTrue}
 use Rattle.std.specs.Ordering.{int_eq}
 use Rattle.std.specs.List.{list_any, list_all}
 use Rattle.std.proofs.lemmas.Bool.{false≢true}
 use Rattle.std.proofs.lemmas.Bool.Decides.{Decides-int_eq}
-use Rattle.std.proofs.lemmas.List.Elements.{All-nil, All-cons, All-head, All-tail}
+use Rattle.std.proofs.lemmas.List.Elements.{All-nil, All-cons, All-head, All-tail, All-map, All-weaker, All-filter}
 use Rattle.std.proofs.lemmas.List.Folds.{Any-from_list_any, list_any-from_Any}
 use Rattle.fzn_model.specs.declared.term.Term.{Term}
+use Rattle.fzn_model.specs.Kept.{IsValue, TermIn}
+use Rattle.fzn_model.specs.Boxes.{IsBox}
+use Rattle.fzn_model.specs.Bounds.{term_low, is_open}
 use Rattle.rest_basic.specs.Forms.{term_values}
-use Rattle.rest_global.specs.Forms.{term_has}
+use Rattle.rest_basic.proofs.Settling.{low_is}
+use Rattle.rest_global.specs.Forms.{term_has, fixed_values}
 
 -- a list has the number, as a test
 pub among_test : (z : ℤ) (xs : List ℤ) → Contains xs z → list_any (int_eq z) xs ≡ true
@@ -56,3 +60,10 @@ pub alike : (a b : Bool) → (a ≡ true → b ≡ true) → (b ≡ true → a �
 alike true b to from = sym (to refl)
 alike false true to from = from refl
 alike false false to from = refl
+
+-- the values of fixed terms are values
+pub fixed_within : (box : List (List ℤ)) (ts : List Term) → IsBox box → All (TermIn (length box)) ts → All IsValue (fixed_values box ts)
+unfolding fixed_values
+fixed_within box ts sound inside =
+    let shut = λ (t : Term). not (is_open box t) in
+    All-map IsValue (term_low box) (filter shut ts) (All-weaker (TermIn (length box)) (λ t. IsValue (term_low box t)) (λ t i. low_is box t sound i) (filter shut ts) (All-filter shut (TermIn (length box)) ts inside))

@@ -1,6 +1,5 @@
 pub mod Having
 pub mod OpenAndFixed
-pub mod Settling
 pub mod ExtremeLaw
 pub mod Indexing
 pub mod ElementLaw

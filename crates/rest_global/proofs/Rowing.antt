@@ -1,6 +1,6 @@
 -- Rows of a table, column by column and row by row.
 use Rattle.std.proofs.Common.{◌≡◌, ℕ, ◌+◌, ◌/◌, ◌<◌, ◌≤◌, List, [], ◌∷◌, ◌++◌, length, get_or, drop, map, refl, sym, ap, ◌∙◌, arith, ℤ, pos, Bool, true, false, cond, inl, inr, add-one, drop-cons}
-use Rattle.std.specs.Prelude.{◌&&◌, filter, if◌then◌else◌}
+use Rattle.std.specs.Prelude.{filter, if◌then◌else◌}
 use Rattle.std.specs.Ordering.{int_cmp}
 use Rattle.std.specs.Cmp.Lexicographic.{slice_cmp}
 use Rattle.std.specs.BTreeSet.{insert_key}
@@ -8,27 +8,10 @@ use Rattle.std.proofs.lemmas.List.{append-nil, append_assoc, drop_all, map-appen
 use Rattle.std.proofs.lemmas.List.Elements.{filter-append, Contains-append_cases, Contains-append_left, Contains-append_right}
 use Rattle.fzn_model.specs.declared.term.Term.{Term}
 use Rattle.fzn_model.specs.Bounds.{is_open}
-use Rattle.rest_global.specs.Forms.{term_has, is_possible, open_entries, row_at, rows_below, rows_possible, rising_rows, rows_left}
+use Rattle.rest_global.specs.Forms.{is_possible, open_entries, row_at, rows_below, rows_possible, rising_rows, rows_left}
 use Rattle.rest_global.proofs.Rising.{has_first, has_cases, has_no, insert_has, insert_sorted, same_members, exact_rows, rows_total, rows_sorted, rows_have}
 
 -- ---- whether each entry is a value of its column
-possible_front : (box : List (List ℤ)) (xs : List Term) (row : List ℤ) (k : ℕ) (d : Term) (e : ℤ) → k < length xs → length row ≡ length xs
-    → is_possible box (drop k xs) (drop k row) ≡ (term_has box (get_or row k e) (get_or xs k d) && is_possible box (drop (k + 1) xs) (drop (k + 1) row))
-possible_front box xs row k d e h same =
-    let inside : k < length row = omega (arith, h, same) in
-    rw (add-one, drop-cons xs k d h, drop-cons row k e inside) refl
-
-pub possible_here : (box : List (List ℤ)) (xs : List Term) (row : List ℤ) (k : ℕ) (d : Term) (e : ℤ) (all : Bool) → k < length xs → length row ≡ length xs → is_possible box (drop k xs) (drop k row) ≡ all → term_has box (get_or row k e) (get_or xs k d) ≡ false → false ≡ all
-possible_here box xs row k d e all h same told has =
-    let front = possible_front box xs row k d e h same in
-    sym (ap (λ (t : Bool). t && is_possible box (drop (k + 1) xs) (drop (k + 1) row)) has) ∙ sym front ∙ told
-
-pub possible_more : (box : List (List ℤ)) (xs : List Term) (row : List ℤ) (k : ℕ) (d : Term) (e : ℤ) (all : Bool) → k < length xs → length row ≡ length xs → is_possible box (drop k xs) (drop k row) ≡ all → term_has box (get_or row k e) (get_or xs k d) ≡ true
-    → is_possible box (drop (k + 1) xs) (drop (k + 1) row) ≡ all
-possible_more box xs row k d e all h same told has =
-    let front = possible_front box xs row k d e h same in
-    sym (ap (λ (t : Bool). t && is_possible box (drop (k + 1) xs) (drop (k + 1) row)) has) ∙ sym front ∙ told
-
 pub possible_all : (box : List (List ℤ)) (xs : List Term) (row : List ℤ) (k : ℕ) (all : Bool) → length xs ≤ k → is_possible box (drop k xs) (drop k row) ≡ all → true ≡ all
 possible_all box xs row k all h told = let none = drop_all k xs h in rw none at told
 

@@ -30,7 +30,7 @@ use Rattle.rest_global.proofs.Having.{and_both, term_has_is}
 use Rattle.rest_global.proofs.OpenAndFixed.{passes, mapped, fewer}
 use Rattle.rest_global.proofs.Rising.{has_first, has_later, has_no, rows_count, rows_have}
 use Rattle.rest_global.proofs.Filling.{row_wide, below_at, below_wide, left_from, left_over, row_of, full_has}
-use Rattle.rest_global.proofs.Settling.{OpenLeft, FineLeft, never_says, one_open, always_open, never_open, terms_left, always_fine, never_fine, open_in}
+use Rattle.rest_basic.proofs.Settling.{OpenLeft, FineLeft, never_says, one_open, always_open, never_open, terms_left, always_fine, never_fine, open_in}
 
 -- ---- a row of values
 abbrev values : List Term → List ℤ → List ℤ

@@ -163,7 +163,7 @@ fn form_left<V: BoxView>(
 }
 
 /// The form of a table.
-#[tactic(auto, using(crate::proofs::Settling::open_in), unfolding(crate::specs::Forms::table_form))]
+#[tactic(auto, using(rest_basic::proofs::Settling::open_in), unfolding(crate::specs::Forms::table_form))]
 pub(crate) fn form_of_table<V: BoxView>(
     alloc: Global,
     xs: &[Term],

@@ -1,8 +1,8 @@
 -- Settled terms, and constraints that hold or fail by a test: what they say, name and keep.
 use Rattle.std.proofs.Common.{◌≡◌, List, [], length, refl, arith, ℤ, Bool, true, false, inl, inr}
-use Rattle.std.specs.Prelude.{All, filter, not, ◌↔◌, if◌then◌else◌, ⊤}
+use Rattle.std.specs.Prelude.{All, ◌↔◌, if◌then◌else◌, ⊤}
 use Rattle.std.proofs.lemmas.Bool.{false≢true}
-use Rattle.std.proofs.lemmas.List.Elements.{All-nil, All-map, All-weaker, All-filter, filter_passes}
+use Rattle.std.proofs.lemmas.List.Elements.{All-nil, All-weaker, All-filter, filter_passes}
 use Rattle.fzn_model.specs.declared.term.Term.{Term}
 use Rattle.fzn_model.specs.declared.term.Term.TheVariants as term
 use Rattle.fzn_model.specs.Kept.{IsValue, TermIn, TermsIn}
@@ -15,7 +15,6 @@ use Rattle.rest_basic.specs.Says.{Says, IsLeft, NamesOpen}
 use Rattle.rest_basic.specs.declared.reduced.Reduced.{Reduced}
 use Rattle.rest_basic.specs.declared.reduced.Reduced.TheVariants as reduced
 use Rattle.rest_basic.proofs.ClauseLaw.{has_none}
-use Rattle.rest_global.specs.Forms.{fixed_values}
 
 -- ---- what is said
 pub never_says : (θ : List ℤ) → Says (reduced.Is empty_clause) θ → ⊥
@@ -99,9 +98,3 @@ settled_in box t sound inside = settled_in_by box t sound inside (is_open box t)
 pub open_in : (box : List (List ℤ)) (ts : List Term) → All (TermIn (length box)) ts → All (TermIn (length box)) (open_terms box ts)
 unfolding open_terms
 open_in box ts inside = All-filter (is_open box) (TermIn (length box)) ts inside
-
-pub fixed_within : (box : List (List ℤ)) (ts : List Term) → IsBox box → All (TermIn (length box)) ts → All IsValue (fixed_values box ts)
-unfolding fixed_values
-fixed_within box ts sound inside =
-    let shut = λ (t : Term). not (is_open box t) in
-    All-map IsValue (term_low box) (filter shut ts) (All-weaker (TermIn (length box)) (λ t. IsValue (term_low box t)) (λ t i. low_is box t sound i) (filter shut ts) (All-filter shut (TermIn (length box)) ts inside))
