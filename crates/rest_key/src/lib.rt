@@ -40,8 +40,6 @@ mod rest_words;
 
 // What follows from the definitions.
 mod laws;
-#[cfg(test)]
-mod tests;
 
 pub use counts::count;
 pub use digest::{far, near};

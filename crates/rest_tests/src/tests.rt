@@ -2,8 +2,8 @@ use dom_store::Store;
 use fzn_model::{Model, Rest, top_of};
 use fzn_parser::parse;
 use rest_global::{Projected, project};
-use rest_key::{count, far, near, words};
-use std::alloc::Global;
+use rest_key::{count, dominates, far, near, weaker, words};
+use std::alloc::{AllocError, Global};
 use std::process::Abort;
 use std::test::Fail;
 
@@ -451,4 +451,263 @@ fn rests_of_boxes(rt: HostRuntime) -> Result<(), Fail> {
         (15_658_191_375_538_532_279, 15_658_191_375_538_532_279),
     )?;
     Ok(())
+}
+
+/// A model of some variables with one more item.
+fn with_item(alloc: Global, item: &str) -> Result<String, AllocError> {
+    format!(in alloc;
+        "var 0..5: x; var 0..5: y; var 2..9: m; var bool: a; var bool: b; var bool: c; {item}; solve minimize x;"
+    )
+}
+
+/// The rest of that model.
+fn rest_with(alloc: Global, item: &str) -> Result<Rest, Fail> {
+    let text = with_item(alloc, item)?;
+    match projected(alloc, text.as_str(), 1 << 20)? {
+        Projected::Whole(rest, _) => Ok(rest),
+        Projected::Wide(_) => Err("the rest is wide")?,
+    }
+}
+
+/// Fails where one of the rests with these items dominates the other otherwise.
+fn compare(
+    rt: &impl Abort,
+    alloc: Global,
+    first: &str,
+    second: &str,
+    expected: (bool, bool),
+) -> Result<(), Fail> {
+    let one = rest_with(alloc, first)?;
+    let other = rest_with(alloc, second)?;
+    assert_eq!(rt;
+        (dominates(&one, &other), dominates(&other, &one)),
+        expected,
+        "{first}"
+    );
+    Ok(())
+}
+
+/// Whether the first constraint of the one is weaker than that of the other.
+#[tactic(auto, using(rest_key::specs::Comparing::can_compare))]
+fn is_weaker(first: &Rest, second: &Rest) -> bool {
+    let cons = first.cons.as_slice();
+    let others = second.cons.as_slice();
+    !cons.is_empty() && !others.is_empty() && weaker(&cons[0], &others[0])
+}
+
+#[test]
+fn more_taken_values_are_stronger(rt: HostRuntime) -> Result<(), Fail> {
+    let alloc = rt.alloc();
+    let fewer = rest_with(alloc, "constraint fzn_all_different_int([x,y,1])")?;
+    let more = rest_with(alloc, "constraint fzn_all_different_int([x,y,1,4])")?;
+    assert!(rt; is_weaker(&fewer, &more) && !is_weaker(&more, &fewer));
+    Ok(())
+}
+
+const WEAKER: (bool, bool) = (true, false);
+
+const EQUAL: (bool, bool) = (true, true);
+
+const APART: (bool, bool) = (false, false);
+
+#[test]
+fn dominance_of_bases(rt: HostRuntime) -> Result<(), Fail> {
+    let alloc = rt.alloc();
+    let sum = "constraint int_lin_le([1,-2],[x,y],2)";
+    compare(
+        &rt,
+        alloc,
+        sum,
+        "constraint int_lin_le([1,-2],[x,y],1)",
+        WEAKER,
+    )?;
+    compare(&rt, alloc, sum, sum, EQUAL)?;
+    compare(
+        &rt,
+        alloc,
+        sum,
+        "constraint int_lin_le([-2,1],[y,x],2)",
+        APART,
+    )?;
+    compare(
+        &rt,
+        alloc,
+        sum,
+        "constraint int_lin_eq([1,-2],[x,y],2)",
+        APART,
+    )?;
+    compare(
+        &rt,
+        alloc,
+        "constraint int_lin_eq([1,1],[x,y],4)",
+        "constraint int_lin_eq([1,1],[x,y],5)",
+        APART,
+    )?;
+    compare(
+        &rt,
+        alloc,
+        "constraint int_lin_ne([1,1],[x,y],4)",
+        "constraint int_lin_ne([1,1],[x,y],5)",
+        APART,
+    )?;
+    compare(
+        &rt,
+        alloc,
+        "constraint bool_clause([a,b],[c])",
+        "constraint bool_clause([b],[])",
+        WEAKER,
+    )?;
+    compare(
+        &rt,
+        alloc,
+        "constraint bool_clause([a,b],[])",
+        "constraint bool_clause([b,a,b],[])",
+        EQUAL,
+    )?;
+    compare(
+        &rt,
+        alloc,
+        "constraint bool_clause([a],[])",
+        "constraint bool_clause([],[a])",
+        APART,
+    )?;
+    compare(
+        &rt,
+        alloc,
+        "constraint set_in(x,{0,1,2,4})",
+        "constraint set_in(x,{1,2})",
+        WEAKER,
+    )?;
+    compare(
+        &rt,
+        alloc,
+        "constraint set_in(x,{0,1,3})",
+        "constraint set_in(x,{1,2})",
+        APART,
+    )?;
+    compare(
+        &rt,
+        alloc,
+        "constraint int_lin_le_reif([1],[x],2,a)",
+        "constraint int_lin_le_reif([1],[x],1,a)",
+        APART,
+    )?;
+    Ok(())
+}
+
+#[test]
+fn dominance_of_lists(rt: HostRuntime) -> Result<(), Fail> {
+    let alloc = rt.alloc();
+    compare(
+        &rt,
+        alloc,
+        "constraint fzn_all_different_int([x,y,1])",
+        "constraint fzn_all_different_int([x,y,1,4])",
+        WEAKER,
+    )?;
+    compare(
+        &rt,
+        alloc,
+        "constraint fzn_all_different_int([x,y,2])",
+        "constraint fzn_all_different_int([x,y,1,4])",
+        APART,
+    )?;
+    compare(
+        &rt,
+        alloc,
+        "constraint fzn_cumulative([0,x],[2,2],[1,2],2)",
+        "constraint fzn_cumulative([0,x],[3,2],[1,2],2)",
+        WEAKER,
+    )?;
+    compare(
+        &rt,
+        alloc,
+        "constraint fzn_cumulative([0,x],[3,2],[2,2],3)",
+        "constraint fzn_cumulative([0,x],[3,2],[1,2],2)",
+        WEAKER,
+    )?;
+    compare(
+        &rt,
+        alloc,
+        "constraint fzn_cumulative([0,x],[3,2],[2,2],3)",
+        "constraint fzn_cumulative([1,x],[3,2],[1,2],2)",
+        APART,
+    )?;
+    compare(
+        &rt,
+        alloc,
+        "constraint fzn_cumulative([0,x],[3,2],[1,2],m)",
+        "constraint fzn_cumulative([0,x],[3,2],[2,2],m)",
+        WEAKER,
+    )?;
+    compare(
+        &rt,
+        alloc,
+        "constraint fzn_table_int([x,y],[0,0,1,2,3,4])",
+        "constraint fzn_table_int([x,y],[3,4,0,0])",
+        WEAKER,
+    )?;
+    compare(
+        &rt,
+        alloc,
+        "constraint fzn_table_int([x,y],[0,0,1,2])",
+        "constraint fzn_table_int([x,y],[3,4])",
+        APART,
+    )?;
+    compare(
+        &rt,
+        alloc,
+        "constraint int_times(x,y,m)",
+        "constraint int_times(y,x,m)",
+        APART,
+    )?;
+    compare(
+        &rt,
+        alloc,
+        "constraint array_int_maximum(m,[x,y])",
+        "constraint array_int_maximum(m,[x,y])",
+        EQUAL,
+    )?;
+    Ok(())
+}
+
+/// A lesser domain, another number of variables, another label, a constraint fewer, and both ways at once.
+#[test]
+fn dominance_of_rests(rt: HostRuntime) -> Result<(), Fail> {
+    let alloc = rt.alloc();
+    let sum = "constraint int_lin_le([1],[x],2)";
+    compare(&rt, alloc, "var 0..3: z", "var {0,2,3}: z", WEAKER)?;
+    compare(&rt, alloc, "var 0..3: z", "var 2..5: z", APART)?;
+    compare(&rt, alloc, "var 0..3: z", "var 2..2: z", APART)?;
+    compare(&rt, alloc, "constraint int_lin_le([1],[x],9)", sum, WEAKER)?;
+    compare(
+        &rt,
+        alloc,
+        sum,
+        "constraint int_lin_le([1],[x],9); constraint int_lin_le([1],[x],2)",
+        APART,
+    )?;
+    compare(
+        &rt,
+        alloc,
+        "var 0..3: z; constraint int_lin_le([1],[x],1)",
+        "var 0..2: z; constraint int_lin_le([1],[x],2)",
+        APART,
+    )?;
+    Ok(())
+}
+
+/// The cost is equal too.
+#[test]
+fn dominance_of_costs(rt: HostRuntime) -> Result<(), Fail> {
+    let alloc = rt.alloc();
+    let text = "var 0..5: x; var 0..5: y; solve maximize x;";
+    match projected(alloc, text, 100)? {
+        Projected::Whole(rest, 0) => {
+            let other = projected(alloc, "var 0..5: x; var 0..5: y; solve minimize x;", 100)?;
+            assert!(rt; matches!(&other, Projected::Whole(other, 0) if !dominates(&rest, other)));
+            Ok(())
+        }
+        _ => Err("another offset, or wide")?,
+    }
 }
