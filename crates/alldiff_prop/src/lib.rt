@@ -35,7 +35,5 @@ mod untaken;
 
 // The propagator.
 mod alldiff_prop;
-#[cfg(test)]
-mod tests;
 
 pub use alldiff_prop::AllDiffProp;

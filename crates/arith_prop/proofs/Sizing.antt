@@ -1,7 +1,6 @@
 -- Each step for a size, and what they owe together.
 use Rattle.std.proofs.Common.{◌≡◌, List, length, sym, subst, ap, ◌∙◌, arith, pos, negsuc}
-use Rattle.std.specs.Prelude.{ℤ, ◌-ℤ◌, ◌≤ℤ◌, unsigned_abs}
-use Rattle.std.specs.Int.{int_max}
+use Rattle.std.specs.Prelude.{ℤ, ◌≤ℤ◌, unsigned_abs}
 use Rattle.std.proofs.lemmas.Int.{ints, clamps}
 use Rattle.fzn_model.specs.declared.term.Term.{Term}
 use Rattle.fzn_model.specs.declared.con.Con.TheVariants as con
@@ -72,11 +71,3 @@ abs_owed box a b sound kept reached = record {
       let below : term_high box b ≤ℤ sizes_high (term_low box a) (term_low box a) = subst (λ h. term_high box b ≤ℤ sizes_high (term_low box a) h) one reached.1 in
       y ∙ one_size (term_low box a) (term_low box b) above (subst (λ v. v ≤ℤ sizes_high (term_low box a) (term_low box a)) (sym fixed) below) ∙ ap (λ v. pos (unsigned_abs v)) (sym x);
 }
-
-pub least_size_is : (a : ℤ × ℤ) (m n : ℤ) → m ≡ int_max a.0 (pos 0 -ℤ a.1) → n ≡ int_max m (pos 0) → n ≡ least_size a
-unfolding least_size
-least_size_is a m n e f = f ∙ ap (λ x. int_max x (pos 0)) e
-
-pub greatest_size_is : (a : ℤ × ℤ) (n : ℤ) → n ≡ int_max (pos 0 -ℤ a.0) a.1 → n ≡ greatest_size a
-unfolding greatest_size
-greatest_size_is a n e = e

@@ -30,7 +30,5 @@ mod times;
 
 // The propagator of all of them.
 mod prop;
-#[cfg(test)]
-mod tests;
 
 pub use prop::ArithProp;

@@ -4,4 +4,3 @@ pub mod Clauses
 pub mod Stepping
 pub mod Runs
 pub mod Members
-pub mod Trials

@@ -24,7 +24,5 @@ mod places;
 
 // The propagator of both, with constraints of its own.
 mod prop;
-#[cfg(test)]
-mod tests;
 
 pub use prop::ClauseProp;

@@ -1,12 +1,12 @@
 -- The amount that ends first of those that are used at a moment.
-use Rattle.std.proofs.Common.{◌≡◌, ℕ, ◌+◌, ◌<◌, ◌≤◌, List, length, get_or, ℤ, pos, ◌+ℤ◌, ◌≤ℤ◌, ◌<ℤ◌, refl, sym, ap, ◌∙◌, subst, arith, inl, inr}
-use Rattle.std.specs.Prelude.{All, Bool, true, false, Option, Some, None}
+use Rattle.std.proofs.Common.{◌≡◌, ℕ, ◌+◌, ◌<◌, List, length, get_or, ℤ, pos, ◌+ℤ◌, ◌≤ℤ◌, ◌<ℤ◌, refl, sym, ap, ◌∙◌, subst, arith, inl, inr}
+use Rattle.std.specs.Prelude.{Bool, true, false}
 use Rattle.std.proofs.lemmas.Int.{ints, by_lt_z}
 use Rattle.std.proofs.lemmas.Bool.{cases_lt, false≢true}
 use Rattle.std.proofs.lemmas.List.{get_or_default}
 use Rattle.fzn_model.specs.declared.cumulative.Used.{Used}
 use Rattle.fzn_model.proofs.Moments.{part, active}
-use Rattle.cumul_prop.specs.Parts.{IsPart, AreParts}
+use Rattle.cumul_prop.specs.Parts.{AreParts}
 use Rattle.cumul_prop.specs.Limits.{NoneUsed, IsFirstEnd, IsNext}
 
 pub first_none : (all : List Used) (t : ℤ) → NoneUsed all t 0

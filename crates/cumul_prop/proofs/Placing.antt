@@ -1,5 +1,5 @@
 -- The least and the greatest start of a task.
-use Rattle.std.proofs.Common.{◌≡◌, ℕ, List, get_or, ℤ, pos, ◌+ℤ◌, ◌-ℤ◌, arith, inl, inr}
+use Rattle.std.proofs.Common.{◌≡◌, ℕ, List, get_or, ℤ, pos, ◌-ℤ◌, arith, inl, inr}
 use Rattle.std.proofs.lemmas.Int.{ints}
 use Rattle.fzn_model.specs.declared.cumulative.Used.{Used}
 use Rattle.fzn_model.specs.Kept.{IsValue, IsNear}

@@ -35,6 +35,3 @@ mod starts;
 mod cumul_prop;
 
 pub use cumul_prop::CumulProp;
-
-#[cfg(test)]
-mod tests;

@@ -27,7 +27,5 @@ mod places;
 
 // The propagator.
 mod element_prop;
-#[cfg(test)]
-mod tests;
 
 pub use element_prop::ElementProp;

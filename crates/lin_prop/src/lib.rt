@@ -25,7 +25,5 @@ mod sums;
 
 // The propagator.
 mod lin_prop;
-#[cfg(test)]
-mod tests;
 
 pub use lin_prop::LinProp;

@@ -4,4 +4,3 @@ pub mod Reified
 pub mod Fixing
 pub mod Kinds
 pub mod Laws
-pub mod Trials

@@ -25,8 +25,6 @@ mod engine;
 mod fixed;
 mod goal;
 mod rounds;
-#[cfg(test)]
-mod tests;
 
 pub use engine::Engine;
 pub use fixed::Fixed;

@@ -15,7 +15,7 @@ use Rattle.fzn_model.specs.declared.cumulative.Used.{Used}
 use Rattle.fzn_model.specs.Kept.{IsNear}
 use Rattle.fzn_model.specs.Meaning.{amount_at}
 use Rattle.rest_global.specs.Forms.{AreUsedRuns, AreRunsOf}
-use Rattle.rest_global.specs.Sweep.{IsAmount, AreAmounts, part_at, changes_of_part, changes_of, changed_by, AreFrom, AreChanges, CanJoin, IsJoined, CanStep, IsStep, Swept}
+use Rattle.rest_global.specs.Sweep.{IsAmount, AreAmounts, part_at, changes_of_part, changes_of, changed_by, AreFrom, AreChanges, CanStep, IsStep, Swept}
 use Rattle.rest_global.specs.declared.used_runs.Change.{Change}
 use Rattle.rest_global.specs.declared.used_runs.Sweep.{Sweep}
 use Rattle.rest_global.proofs.Joining.{runs_of_chain, part_some, all_over, ends_later}
@@ -262,30 +262,6 @@ swept_all us left s is swept =
     let still = done.later end after in
     let quiet = all_over us end end (omega (arith, ints)) over in
     record { runs = swept.runs; same = λ t. end_same us s t done (omega (arith, ints, still, quiet)) (int_lt t s.last) refl }
-
--- ---- one step
-pub can_join : (c : Change) (s : Sweep) (part : Used) → CanStep c s → s.last <ℤ c.moment → (s.amount ≡ pos 0 → ⊥) → part ≡ record { from = s.last; to = c.moment; amount = s.amount } → CanJoin part s.runs.items
-can_join c s part can wide some is =
-    let least = can.positive wide in
-    rw is (record { runs = can.runs; ends = can.ends; wide = wide; some = omega (arith, ints, least, some) })
-
-pub step_joined : (c : Change) (s r : Sweep) (part : Used) → part ≡ record { from = s.last; to = c.moment; amount = s.amount } → IsJoined part s.runs.items r.runs.items → r.last ≡ c.moment → r.amount ≡ s.amount +ℤ c.amount → IsStep c s r
-step_joined c s r part is joined last amount =
-    let now = subst (λ (p : Used). IsJoined p s.runs.items r.runs.items) is joined in
-    record { runs = now.runs; ends = now.ends; last = last; amount = amount; same = now.same }
-
-nothing_used : (a b t z : ℤ) → (a <ℤ b → z ≡ pos 0) → a ≤ℤ b → cond (int_le a t && int_lt t b) z (pos 0) ≡ pos 0
-nothing_used a b t z h order = grind (arith, ints)
-
-pub step_passed : (c : Change) (s r : Sweep) → CanStep c s → (s.last <ℤ c.moment → s.amount ≡ pos 0) → r.runs.items ≡ s.runs.items → r.last ≡ c.moment → r.amount ≡ s.amount +ℤ c.amount → IsStep c s r
-step_passed c s r can none is last amount =
-    record {
-      runs = subst (λ (us : List Used). AreUsedRuns us) (sym is) can.runs;
-      ends = subst (λ (us : List Used). All (λ (u : Used). u.to ≤ℤ c.moment) us) (sym is) (ends_later s.runs.items s.last c.moment can.order can.ends);
-      last = last;
-      amount = amount;
-      same = λ t. let e = ap (λ (us : List Used). amount_at us t) is in let n = nothing_used s.last c.moment t s.amount none can.order in omega (arith, ints, e, n);
-    }
 
 -- ---- what is left of the changes
 pub next_change : (cs : List Change) (i : ℕ) (d : Change) → i < length cs → drop i cs ≡ slice_index_or cs i d ∷ drop (i + 1) cs

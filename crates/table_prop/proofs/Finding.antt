@@ -2,7 +2,7 @@
 use Rattle.std.proofs.Common.{◌≡◌, ℕ, ◌+◌, ◌-◌, ◌*◌, ◌/◌, ◌<◌, ◌≤◌, ◌⊎◌, List, [], ◌∷◌, ◌++◌, length, Bool, true, false, take, drop, refl, sym, subst, ap, ◌∙◌, arith, inl, inr}
 use Rattle.std.specs.Prelude.{ℤ, pos, Contains, slice_index_or, slice_range, cond}
 use Rattle.std.proofs.lemmas.List.{get_or-take, get_or-drop, take_more, take_all}
-use Rattle.std.proofs.lemmas.List.Elements.{All-nil, All-push, All-weaker, All-contains, Contains-get_or, Contains-append_left, Contains-push, Contains-push_cases}
+use Rattle.std.proofs.lemmas.List.Elements.{All-push, All-weaker, All-contains, Contains-get_or, Contains-append_left, Contains-push, Contains-push_cases}
 use Rattle.std.proofs.lemmas.Bool.{cases_lt}
 use Rattle.std.proofs.lemmas.Cmp.{int_cmp_total}
 use Rattle.std.proofs.lemmas.Map.Lookups.{exact_signed}
@@ -36,9 +36,6 @@ possible_row box xs rows row inside can = record {
 pub possible_can : (box : Box) (xs : List Term) (rows : List ℤ) (row : ℕ) → IsPossible box xs rows row → CanHaveRow box xs (slice_range rows (row * length xs) (row * length xs + length xs))
 unfolding CanHaveRow
 possible_can box xs rows row is j d h = subst (TermHas box (slice_index_or xs j d)) (sym (range_entry rows (row * length xs) (length xs) j h)) (is.has j d h)
-
-pub possible_none : (box : Box) (xs : List Term) (rows : List ℤ) → ArePossible box xs rows 0 []
-possible_none box xs rows = record { each = All-nil _; all = λ row h. absurd (omega (arith, h)) }
 
 -- one row more
 more_all : (P : ℕ → Type 0) (Q : ℕ → Type 0) (n : ℕ) → ((row : ℕ) → row < n → P row → Q row) → (P n → Q n) → (row : ℕ) → row < n + 1 → P row → Q row
@@ -91,9 +88,6 @@ added v old new updates keys =
       keeps = λ z there. (has new z).0 (updates.0 z ∙ ap (λ b. cond (is_at (int_cmp v) z) true b) ((has old z).1 there) ∙ either (is_at (int_cmp v) z));
       only = λ z there. All-contains (λ x. Contains old.keys x ⊎ (x ≡ v)) (insert_key int_cmp old.keys v) z (All-insert_key int_cmp v (λ x. Contains old.keys x ⊎ (x ≡ v)) old.keys (λ k d h. inl (Contains-get_or old.keys k d h)) (inr refl)) (subst (λ ks. Contains ks z) keys there);
     }
-
-pub entries_none : (rows : List ℤ) (width column : ℕ) → AreEntries rows width column [] []
-entries_none rows width column = record { each = λ v has. absurd (omega (arith, has.1)); all = λ row has. absurd (omega (arith, has.1)) }
 
 entry_kept : (rows : List ℤ) (width column row : ℕ) (found : List ℕ) (v : ℤ) → IsEntry rows width column found v → IsEntry rows width column (found ++ row ∷ []) v
 unfolding IsEntry

@@ -24,7 +24,5 @@ mod rows;
 // A whole pass, and the propagator.
 mod pass_table;
 mod table_prop;
-#[cfg(test)]
-mod tests;
 
 pub use table_prop::TableProp;
