@@ -1,5 +1,5 @@
 -- An engine can hold each constraint of a model.
-use Rattle.std.proofs.Common.{ℕ, ◌<◌, ◌≤◌, List, length, get_or, ℤ, arith}
+use Rattle.std.proofs.Common.{ℕ, length, get_or}
 use Rattle.std.specs.Prelude.{All}
 use Rattle.fzn_model.specs.declared.base.Base.{Base}
 use Rattle.fzn_model.specs.declared.base.Base.TheVariants as base

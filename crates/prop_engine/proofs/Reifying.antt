@@ -1,6 +1,6 @@
 -- A run for a reified base: its own propagator's, and then that of its side.
-use Rattle.std.proofs.Common.{◌≡◌, ◌≤◌, List, length, ℤ, pos, refl, sym, ◌∙◌, ap, arith, subst}
-use Rattle.std.specs.Prelude.{Bool, true, false, not, All, IfOk, Result, Ok, Err}
+use Rattle.std.proofs.Common.{◌≡◌, List, length, ℤ, refl, sym, ◌∙◌, arith, subst}
+use Rattle.std.specs.Prelude.{Bool, true, false, not, IfOk, Result, Ok, Err}
 use Rattle.std.proofs.lemmas.Int.{ints}
 use Rattle.fzn_model.specs.declared.term.Term.{Term}
 use Rattle.fzn_model.specs.declared.lin.Lin.{Lin}
@@ -8,19 +8,18 @@ use Rattle.fzn_model.specs.declared.base.Base.{Base}
 use Rattle.fzn_model.specs.declared.base.Base.TheVariants as base
 use Rattle.fzn_model.specs.declared.con.Con.{Con}
 use Rattle.fzn_model.specs.declared.con.Con.TheVariants as con
-use Rattle.fzn_model.specs.Meaning.{val, bit, Holds, HoldsBase}
+use Rattle.fzn_model.specs.Meaning.{bit, Holds, HoldsBase}
 use Rattle.fzn_model.specs.Opposites.{opposite, opposite_stands, opposite_kept, opposite_small}
-use Rattle.fzn_model.specs.Kept.{TermIn, ConKept, of_call}
+use Rattle.fzn_model.specs.Kept.{TermIn}
 use Rattle.fzn_model.specs.Boxes.{IsBox, InBox}
 use Rattle.dom_store.specs.declared.propagator.Ran.{Ran}
 use Rattle.dom_store.specs.declared.propagator.Ran.TheVariants as ran
 use Rattle.dom_store.specs.Stores.{Stored}
 use Rattle.fzn_model.specs.Bounds.{IsAt}
-use Rattle.dom_store.specs.Narrowing.{Loses, HasNone}
-use Rattle.dom_store.specs.Strength.{IsOwed, IsStrong, BaseIsStrong, DeniedIsStrong, DeniedIsOwed, OppositeIsStrong}
+use Rattle.dom_store.specs.Strength.{IsOwed, IsStrong, BaseIsStrong, DeniedIsStrong}
 use Rattle.dom_store.specs.Opposites.{opposite_strong}
 use Rattle.fzn_model.specs.Booleans.{Suits}
-use Rattle.dom_store.specs.Propagation.{Runs, Says, FallsFar}
+use Rattle.dom_store.specs.Propagation.{Runs, Says}
 use Rattle.fzn_model.specs.Terms.{at_val}
 use Rattle.dom_store.specs.Laws.{loses_within, runs_refl, runs_trans, runs_still, suits_run, none_before, smaller}
 use Rattle.prop_engine.specs.declared.sides.Sides.{Sides}
@@ -30,7 +29,7 @@ use Rattle.prop_engine.specs.declared.sides.Side.TheVariants as side
 use Rattle.prop_engine.specs.Plans.{CanHold}
 use Rattle.prop_engine.specs.Kinds.{IsWhole}
 use Rattle.prop_engine.specs.Fixing.{Settles}
-use Rattle.prop_engine.specs.Reified.{AreOf, Belongs, IsSide, SidesSuit, SideRuns, SideSays}
+use Rattle.prop_engine.specs.Reified.{Belongs, IsSide, SidesSuit, SideRuns, SideSays}
 
 -- ---- the kinds whose propagator owes the whole strength
 owed_strong : (box : List (List ℤ)) (c : Con) → IsWhole c → IsOwed box c → IsStrong box c

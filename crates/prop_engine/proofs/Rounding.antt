@@ -2,11 +2,9 @@
 use Rattle.std.proofs.Common.{◌≡◌, ◌<◌, ◌≤◌, List, get_or, ℤ, ◌<ℤ◌, refl, sym, ◌∙◌, arith, subst}
 use Rattle.std.specs.Prelude.{All}
 use Rattle.fzn_model.specs.declared.con.Con.{Con}
-use Rattle.fzn_model.specs.declared.con.Con.TheVariants as con
 use Rattle.fzn_model.specs.declared.goal.Goal.{Goal}
 use Rattle.dom_store.specs.Stores.{Stored, box_size}
-use Rattle.dom_store.specs.Narrowing.{Loses, HasNone}
-use Rattle.dom_store.specs.Strength.{IsOwed, IsStrong}
+use Rattle.dom_store.specs.Narrowing.{HasNone}
 use Rattle.fzn_model.specs.Booleans.{Suits}
 use Rattle.dom_store.specs.Propagation.{FallsFar}
 use Rattle.dom_store.specs.Laws.{loses_refl, loses_trans, loses_more, none_before, smaller, same_size, suits_after, still}

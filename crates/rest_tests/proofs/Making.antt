@@ -38,6 +38,7 @@ value_in (run ∷ runs) v h = elim (either v (range run.0 run.1) (values_of runs
 ]
 
 pub lies_within : (m : Parts) (box : List (List ℤ)) → box ≡ box_of m.doms → LiesWithin box m
+unfolding values_of
 lies_within m box is = rw is (record {
   count = box_count m.doms;
   within = λ k z has. value_in (get_or m.doms k []) z (has_from_contains _ z (subst (λ (vs : List ℤ). Contains vs z) (get_or-map values_of m.doms k []) has));
