@@ -37,9 +37,9 @@ value_in (run ∷ runs) v h = elim (either v (range run.0 run.1) (values_of runs
   | inr later ↦ let (k, x, inside, is, within) = value_in runs v later in (suc k, x, omega (arith, inside), is, within)
 ]
 
-pub lies_within : (m : Parts) (box : List (List ℤ)) → box ≡ box_of m.doms → LiesWithin box m
+pub lies_within : (m : Parts) → LiesWithin (box_of m.doms) m
 unfolding values_of
-lies_within m box is = rw is (record {
+lies_within m = record {
   count = box_count m.doms;
   within = λ k z has. value_in (get_or m.doms k []) z (has_from_contains _ z (subst (λ (vs : List ℤ). Contains vs z) (get_or-map values_of m.doms k []) has));
-})
+}
