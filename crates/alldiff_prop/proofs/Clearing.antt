@@ -8,13 +8,13 @@ use Rattle.std.proofs.lemmas.List.Elements.{All-contains}
 use Rattle.int_domain.proofs.Narrowed.{test_from_gt}
 use Rattle.fzn_model.specs.declared.term.Term.{Term}
 use Rattle.fzn_model.specs.declared.con.Con.TheVariants as con
-use Rattle.fzn_model.specs.Kept.{TermIn}
+use Rattle.fzn_model.specs.Limits.{TermIn}
 use Rattle.fzn_model.specs.Meaning.{Holds}
 use Rattle.fzn_model.specs.Bounds.{term_low, term_high}
-use Rattle.fzn_model.specs.Terms.{val_low, val_high}
-use Rattle.dom_store.specs.Laws.{Spares}
+use Rattle.fzn_model.proofs.Terms.{val_low, val_high}
+use Rattle.dom_store.specs.Steps.{Spares}
 use Rattle.alldiff_prop.specs.Rising.{Climbs, IsSplit}
-use Rattle.alldiff_prop.specs.Steps.{LowPasses, HighPrecedes}
+use Rattle.alldiff_prop.specs.Strict.{LowIsAbove, HighIsBelow}
 use Rattle.alldiff_prop.specs.Members.{IsReady}
 use Rattle.alldiff_prop.specs.Halls.{IsFull, AreFull, IsClear, IsApart}
 use Rattle.alldiff_prop.proofs.Crowding.{is_inside_from, outside_full}
@@ -39,7 +39,7 @@ raise_spares box xs taken low fulls t number k n d high ready are at from is spl
     let below = split.before k d less in
     let beyond : number <ℤ term_high box t = omega (arith, ints, below, is, e) in
     let full : IsFull box xs taken low number = subst (IsFull box xs taken low) (sym e) (are.full k d (omega (arith, less, split.within))) in
-    let low_value = val_low box t θ ready.sound inside lies in
+    let low_value = val_low box t θ ready.well_formed inside lies in
     elim (outside_full box xs taken low number θ ready lies holds t full.many at (and_right (int_le low (term_low box t)) (int_le (term_high box t) number) (test_from_gt (term_high box t) number beyond))) [
       | inl under ↦ absurd (omega (arith, ints, under, low_value, from))
       | inr over ↦ over
@@ -66,7 +66,7 @@ cap_spares box xs taken low fulls t n high ready are at before is split less θ 
     let inside = member_in box xs t ready at in
     let number : ℤ = slice_index_or fulls n high in
     let ends : high ≤ℤ number = split.after n high (omega arith) less in
-    let high_value = val_high box t θ ready.sound inside lies in
+    let high_value = val_high box t θ ready.well_formed inside lies in
     let full : IsFull box xs taken low number = are.full n high less in
     elim (outside_full box xs taken low number θ ready lies holds t full.many at (and_left (int_le low (term_low box t)) (int_le (term_high box t) number) (test_from_gt low (term_low box t) before))) [
       | inl under ↦ under
@@ -85,12 +85,12 @@ apart_around box low fulls t high n begins is split all k d h =
     inr (inl begins, inr (omega (arith, ints, ends, is)))
 
 -- ---- what a narrowing reaches
-pub capped_apart : (old new : List (List ℤ)) (low : ℤ) (fulls : List ℤ) (t : Term) → term_low old t <ℤ low → new ≡ old → HighPrecedes t low new → IsApart low fulls t new
-unfolding HighPrecedes
+pub capped_apart : (old new : List (List ℤ)) (low : ℤ) (fulls : List ℤ) (t : Term) → term_low old t <ℤ low → new ≡ old → HighIsBelow t low new → IsApart low fulls t new
+unfolding HighIsBelow
 capped_apart old new low fulls t begins same ends = apart_before new low fulls t (subst (λ box. term_low box t <ℤ low) (sym same) begins) ends
 
-pub passed_apart : (old new : List (List ℤ)) (low : ℤ) (fulls : List ℤ) (t : Term) (n : ℕ) (d number : ℤ) → Climbs fulls → low ≤ℤ term_low old t → IsSplit fulls (term_high old t) n → 0 < n → number ≡ slice_index_or fulls (n - 1) d → new ≡ old → LowPasses t number new → IsApart low fulls t new
-unfolding LowPasses
+pub passed_apart : (old new : List (List ℤ)) (low : ℤ) (fulls : List ℤ) (t : Term) (n : ℕ) (d number : ℤ) → Climbs fulls → low ≤ℤ term_low old t → IsSplit fulls (term_high old t) n → 0 < n → number ≡ slice_index_or fulls (n - 1) d → new ≡ old → LowIsAbove t number new → IsApart low fulls t new
+unfolding LowIsAbove
 passed_apart old new low fulls t n d number climbs from split some is same past =
     raised_apart new low fulls t n (term_high new t) climbs (subst (λ box. low ≤ℤ term_low box t) (sym same) from) refl (subst (λ box. IsSplit fulls (term_high box t) n) (sym same) split)
     (λ e h. let one = get_or_default fulls (n - 1) d e (omega (arith, some, split.within)) in omega (arith, ints, past, is, one))

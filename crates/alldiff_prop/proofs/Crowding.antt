@@ -12,12 +12,11 @@ use Rattle.fzn_model.specs.declared.con.Con.TheVariants as con
 use Rattle.fzn_model.specs.Meaning.{val, Holds, AreDistinct, AreUntaken, IsFree}
 use Rattle.fzn_model.specs.Boxes.{IsBox, InBox}
 use Rattle.dom_store.specs.Stores.{Stored}
-use Rattle.dom_store.specs.Narrowing.{HasNone}
-use Rattle.dom_store.specs.Propagation.{Runs}
+use Rattle.dom_store.specs.Narrowing.{HasNone, Prunes}
 use Rattle.fzn_model.specs.Bounds.{term_low, term_high}
 use Rattle.dom_store.specs.Strength.{is_inside, inside_count, free_count}
-use Rattle.fzn_model.specs.Terms.{val_low, val_high}
-use Rattle.dom_store.specs.Laws.{low_rises, high_falls}
+use Rattle.fzn_model.proofs.Terms.{val_low, val_high}
+use Rattle.dom_store.proofs.Laws.{low_rises, high_falls}
 use Rattle.alldiff_prop.specs.Rising.{Climbs, how_many_to}
 use Rattle.alldiff_prop.specs.Members.{IsReady}
 use Rattle.alldiff_prop.specs.Highs.{IsHighs}
@@ -70,8 +69,8 @@ module _ (box : List (List ℤ)) (xs : List Term) (taken : List ℤ) (low high :
       let x : Term = slice_index_or xs at.0 (term.Const (pos 0)) in
       let is : val x θ ≡ v = at.2 (term.Const (pos 0)) in
       let inside = inside_is box low high x (at.3 (term.Const (pos 0))) in
-      let from = val_low box x θ ready.sound (ready.terms at.0 (term.Const (pos 0)) at.1) lies in
-      let to = val_high box x θ ready.sound (ready.terms at.0 (term.Const (pos 0)) at.1) lies in
+      let from = val_low box x θ ready.well_formed (ready.terms at.0 (term.Const (pos 0)) at.1) lies in
+      let to = val_high box x θ ready.well_formed (ready.terms at.0 (term.Const (pos 0)) at.1) lies in
       (omega (arith, ints, is, inside, from), omega (arith, ints, is, inside, to), subst (λ w. Contains taken w → ⊥) is (free_value at.0 (term.Const (pos 0)) at.1))
 
   -- there are at most as many as free numbers
@@ -142,8 +141,8 @@ fulls_full box xs taken low highs fulls are to = record {
 }
 
 -- members within an interval stay there
-pub full_on : (xs : List Term) (taken : List ℤ) (low : ℤ) (fulls : List ℤ) (old new : Stored) → IsReady old.box xs → IsBox new.box → Runs (con.AllDiffExcept xs taken) old new → AreFull xs taken low fulls old.box → AreFull xs taken low fulls new.box
-full_on xs taken low fulls old new ready sound runs are = record {
+pub full_on : (xs : List Term) (taken : List ℤ) (low : ℤ) (fulls : List ℤ) (old new : Stored) → IsReady old.box xs → IsBox new.box → Prunes (Holds (con.AllDiffExcept xs taken)) old new → AreFull xs taken low fulls old.box → AreFull xs taken low fulls new.box
+full_on xs taken low fulls old new ready well_formed runs are = record {
   climbs = are.climbs;
   values = are.values;
   full = λ k d h.
@@ -155,6 +154,6 @@ full_on xs taken low fulls old new ready sound runs are = record {
     stays : (high : ℤ) (k : ℕ) (d : Term) → k < length xs → is_inside old.box low high (slice_index_or xs k d) ≡ true → is_inside new.box low high (slice_index_or xs k d) ≡ true
     stays high k d h is =
         let inside = inside_is old.box low high (slice_index_or xs k d) is in
-        let rises = low_rises _ old.box new.box (slice_index_or xs k d) ready.sound sound runs.loses (ready.terms k d h) in
-        let falls = high_falls _ old.box new.box (slice_index_or xs k d) ready.sound sound runs.loses (ready.terms k d h) in
+        let rises = low_rises _ old.box new.box (slice_index_or xs k d) ready.well_formed well_formed runs.loses (ready.terms k d h) in
+        let falls = high_falls _ old.box new.box (slice_index_or xs k d) ready.well_formed well_formed runs.loses (ready.terms k d h) in
         is_inside_from new.box low high (slice_index_or xs k d) (omega (arith, ints, inside, rises)) (omega (arith, ints, inside, falls))

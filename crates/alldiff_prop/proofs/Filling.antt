@@ -4,7 +4,7 @@ use Rattle.std.specs.Prelude.{ℤ, pos, ◌≤ℤ◌, slice_index_or}
 use Rattle.std.proofs.lemmas.Int.{ints}
 use Rattle.std.proofs.lemmas.List.Elements.{All-push, All-nil, Contains-append_left, Contains-push}
 use Rattle.std.proofs.lemmas.List.Quantifiers.{all_pairs_push}
-use Rattle.fzn_model.specs.Kept.{IsValue}
+use Rattle.fzn_model.specs.Limits.{IsValue}
 use Rattle.dom_store.specs.Strength.{free_count}
 use Rattle.alldiff_prop.specs.Rising.{Climbs}
 use Rattle.alldiff_prop.specs.Fulls.{AreBetween, IsFilledBefore, AreFullsTo}

@@ -10,10 +10,10 @@ use Rattle.std.proofs.lemmas.List.Elements.{filter_more, filter_passes, All-filt
 use Rattle.std.proofs.lemmas.List.Sorted.{All-permutation}
 use Rattle.int_domain.proofs.Narrowed.{le_from_test, test_from_le, test_from_gt}
 use Rattle.fzn_model.specs.declared.term.Term.{Term}
-use Rattle.fzn_model.specs.Kept.{TermIn, IsValue}
+use Rattle.fzn_model.specs.Limits.{TermIn, IsValue}
 use Rattle.fzn_model.specs.Bounds.{term_low, term_high}
 use Rattle.dom_store.specs.Strength.{inside_count}
-use Rattle.fzn_model.specs.Terms.{low_to_high, has_low, has_high, has_value}
+use Rattle.fzn_model.proofs.Terms.{low_to_high, has_low, has_high, has_value}
 use Rattle.alldiff_prop.specs.Rising.{IsRising, how_many_to}
 use Rattle.alldiff_prop.specs.Members.{IsReady}
 use Rattle.alldiff_prop.specs.Fulls.{AreBetween}
@@ -55,9 +55,9 @@ highs_between box low xs ready =
     record {
       from = All-map (λ z. low ≤ℤ z) (term_high box) (filter (λ x. int_le low (term_low box x)) xs) (λ k d h.
           let from = le_from_test low _ (passes k d h) in
-          let ordered = low_to_high box _ ready.sound (inside k d h) in
+          let ordered = low_to_high box _ ready.well_formed (inside k d h) in
           omega (arith, ints, from, ordered));
-      values = All-map IsValue (term_high box) (filter (λ x. int_le low (term_low box x)) xs) (λ k d h. has_value box _ _ ready.sound (inside k d h) (has_high box _ ready.sound (inside k d h)));
+      values = All-map IsValue (term_high box) (filter (λ x. int_le low (term_low box x)) xs) (λ k d h. has_value box _ _ ready.well_formed (inside k d h) (has_high box _ ready.well_formed (inside k d h)));
     }
 
 pub highs_are : (box : List (List ℤ)) (low : ℤ) (xs : List Term) (gathered sorted : List ℤ) → IsReady box xs → gathered ≡ highs_of box low xs → IsPermutation gathered sorted → IsSorted int_cmp sorted → IsHighs box xs low sorted
@@ -82,7 +82,7 @@ mapped_at f xs k d h = (
 
 pub lows_are : (box : List (List ℤ)) (xs : List Term) (gathered lows : List ℤ) → IsReady box xs → gathered ≡ map (term_low box) xs → IsRising gathered lows → AreLows box xs lows
 lows_are box xs gathered lows ready is rising =
-    let values : All IsValue gathered = subst (All IsValue) (sym is) (All-map IsValue (term_low box) xs (λ k d h. has_value box _ _ ready.sound (ready.terms k d h) (has_low box _ ready.sound (ready.terms k d h)))) in
+    let values : All IsValue gathered = subst (All IsValue) (sym is) (All-map IsValue (term_low box) xs (λ k d h. has_value box _ _ ready.well_formed (ready.terms k d h) (has_low box _ ready.well_formed (ready.terms k d h)))) in
     record {
       values = λ k d h. All-contains IsValue gathered _ values (rising.from _ (Contains-get_or lows k d h));
       all = λ k d h. rising.has _ (subst (λ l. Contains l (term_low box (slice_index_or xs k d))) (sym is) (mapped_at (term_low box) xs k d h));

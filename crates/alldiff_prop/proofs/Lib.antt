@@ -5,8 +5,9 @@ pub mod Free
 pub mod Gathering
 pub mod Filling
 pub mod Crowding
-pub mod Stepping
+pub mod Ready
 pub mod Clearing
 pub mod Freeing
-pub mod Settling
+pub mod Intervals
 pub mod Owing
+pub mod Beyond

@@ -9,35 +9,35 @@ use Rattle.fzn_model.specs.Boxes.{IsBox, InBox}
 use Rattle.dom_store.specs.Stores.{Stored}
 use Rattle.fzn_model.specs.Bounds.{term_low, term_high, IsFixed}
 use Rattle.dom_store.specs.Strength.{is_inside, free_count, IsHallInterval, AllDiffIsStrong, IsChecked, IsOwed}
-use Rattle.fzn_model.specs.Terms.{fixed_val}
-use Rattle.fzn_model.specs.Booleans.{Suits}
+use Rattle.fzn_model.proofs.Terms.{fixed_val}
+use Rattle.fzn_model.specs.Booleans.{FitsBox}
 use Rattle.dom_store.specs.Passes.{Concludes}
 use Rattle.dom_store.specs.declared.pass.Passed.{Passed}
 use Rattle.dom_store.specs.declared.pass.Passed.TheVariants as passed
 use Rattle.alldiff_prop.specs.Members.{IsReady}
-use Rattle.alldiff_prop.specs.Steps.{Shows, Steps, EachTo}
+use Rattle.dom_store.specs.Steps.{Reaches, Step, EachTo}
 use Rattle.alldiff_prop.specs.Untaken.{BoundsAreFree, AreFree}
-use Rattle.alldiff_prop.specs.Halls.{IsSettled, AreSettled}
+use Rattle.alldiff_prop.specs.Halls.{IsNarrowedFrom, AreNarrowed}
 use Rattle.alldiff_prop.proofs.Counting.{two_pass}
 use Rattle.alldiff_prop.proofs.Free.{free_single}
 use Rattle.alldiff_prop.proofs.Crowding.{is_inside_from}
-use Rattle.alldiff_prop.proofs.Stepping.{ready_on}
+use Rattle.alldiff_prop.proofs.Ready.{ready_on}
 
-pub ready_first : (box : List (List ℤ)) (xs : List Term) (taken : List ℤ) → IsBox box → Suits box (con.AllDiffExcept xs taken) → IsReady box xs
-ready_first box xs taken sound suits = record { sound = sound; count = suits.kept.0.count; terms = suits.kept.0.terms }
+pub ready_first : (box : List (List ℤ)) (xs : List Term) (taken : List ℤ) → IsBox box → FitsBox box (con.AllDiffExcept xs taken) → IsReady box xs
+ready_first box xs taken well_formed fits_box = record { well_formed = well_formed; count = fits_box.kept.0.count; terms = fits_box.kept.0.terms }
 
 -- bounds that aren't taken, and intervals that are as they are to be
-strong : (box : List (List ℤ)) (xs : List Term) (taken : List ℤ) → AreFree taken xs box → AreSettled xs taken box → AllDiffIsStrong box xs taken
-unfolding AreFree BoundsAreFree AreSettled IsSettled
-strong box xs taken free settled = record {
+strong : (box : List (List ℤ)) (xs : List Term) (taken : List ℤ) → AreFree taken xs box → AreNarrowed xs taken box → AllDiffIsStrong box xs taken
+unfolding AreFree BoundsAreFree AreNarrowed IsNarrowedFrom
+strong box xs taken free intervals_hold = record {
   untaken = free;
-  intervals = λ i d h j e g order. settled i d h free (free i d h).0 _ order;
+  intervals = λ i d h j e g order. intervals_hold i d h free (free i d h).0 _ order;
 }
 
 -- where all members are fixed, the constraint holds
 module _ (box : List (List ℤ)) (xs : List Term) (taken : List ℤ) (ready : IsReady box xs) (is : AllDiffIsStrong box xs taken) (fixed : All (IsFixed box) xs) (θ : List ℤ) (lies : InBox box θ) where
   value : (k : ℕ) (d : Term) → k < length xs → val (slice_index_or xs k d) θ ≡ term_low box (slice_index_or xs k d)
-  value k d h = fixed_val box (slice_index_or xs k d) θ ready.sound (ready.terms k d h) (fixed k d h) lies
+  value k d h = fixed_val box (slice_index_or xs k d) θ ready.well_formed (ready.terms k d h) (fixed k d h) lies
 
   distinct : (i j : ℕ) (d : Term) → i < j → j < length xs → val (slice_index_or xs i d) θ ≡ val (slice_index_or xs j d) θ → ⊥
   distinct i j d less h same =
@@ -60,26 +60,26 @@ module _ (box : List (List ℤ)) (xs : List Term) (taken : List ℤ) (ready : Is
   unfolding AreDistinct AreUntaken IsFree
   fixed_holds = (distinct, (λ k d h. subst (λ z. Contains taken z → ⊥) (sym (value k d h)) (is.untaken k d h).0))
 
-owed : (box : List (List ℤ)) (xs : List Term) (taken : List ℤ) → IsReady box xs → AreFree taken xs box → AreSettled xs taken box → IsOwed box (con.AllDiffExcept xs taken)
+owed : (box : List (List ℤ)) (xs : List Term) (taken : List ℤ) → IsReady box xs → AreFree taken xs box → AreNarrowed xs taken box → IsOwed box (con.AllDiffExcept xs taken)
 unfolding IsChecked
-owed box xs taken ready free settled =
-    let is = strong box xs taken free settled in
+owed box xs taken ready free intervals_hold =
+    let is = strong box xs taken free intervals_hold in
     record { kind = is; checked = λ fixed θ lies. fixed_holds box xs taken ready is fixed θ lies }
 
 -- ---- a whole pass
 -- where bounds were taken, some go
-pub taken_concludes : (xs : List Term) (taken : List ℤ) (a b : Stored) (result : Passed) → (AreFree taken xs a.box → ⊥) → Steps (EachTo (BoundsAreFree taken) xs (length xs)) (con.AllDiffExcept xs taken) a b result → Concludes (con.AllDiffExcept xs taken) a.box b.box result
-unfolding Shows AreFree EachTo
-taken_concludes xs taken a b passed.Done some step = λ same. absurd (some (subst (λ box. All (λ x. BoundsAreFree taken x box) xs) same (step.shows same)))
-taken_concludes xs taken a b passed.Empty some step = step.shows
+pub taken_concludes : (xs : List Term) (taken : List ℤ) (a b : Stored) (result : Passed) → (AreFree taken xs a.box → ⊥) → Step (EachTo (BoundsAreFree taken) xs (length xs)) (Holds (con.AllDiffExcept xs taken)) a b result → Concludes (con.AllDiffExcept xs taken) a.box b.box result
+unfolding Reaches AreFree EachTo
+taken_concludes xs taken a b passed.Done some step = λ same. absurd (some (subst (λ box. All (λ x. BoundsAreFree taken x box) xs) same (step.reaches same)))
+taken_concludes xs taken a b passed.Empty some step = step.reaches
 
 -- where none was, intervals are looked at
-free_concludes : (xs : List Term) (taken : List ℤ) (a b : Stored) (result : Passed) → IsReady a.box xs → AreFree taken xs a.box → Steps (AreSettled xs taken) (con.AllDiffExcept xs taken) a b result → Concludes (con.AllDiffExcept xs taken) a.box b.box result
-unfolding Shows
+free_concludes : (xs : List Term) (taken : List ℤ) (a b : Stored) (result : Passed) → IsReady a.box xs → AreFree taken xs a.box → Step (AreNarrowed xs taken) (Holds (con.AllDiffExcept xs taken)) a b result → Concludes (con.AllDiffExcept xs taken) a.box b.box result
+unfolding Reaches
 free_concludes xs taken a b passed.Done ready free step = λ same.
-    owed b.box xs taken (ready_on (con.AllDiffExcept xs taken) xs a b step.runs step.sound ready) (subst (AreFree taken xs) (sym same) free) (step.shows same)
-free_concludes xs taken a b passed.Empty ready free step = step.shows
+    owed b.box xs taken (ready_on (Holds (con.AllDiffExcept xs taken)) xs a b step.prunes step.well_formed ready) (subst (AreFree taken xs) (sym same) free) (step.reaches same)
+free_concludes xs taken a b passed.Empty ready free step = step.reaches
 
-pub free_says : {E : Type 0} (xs : List Term) (taken : List ℤ) (a b : Stored) (result : Result Passed E) → IsReady a.box xs → AreFree taken xs a.box → IfOk result (Steps (AreSettled xs taken) (con.AllDiffExcept xs taken) a b) → IfOk result (Concludes (con.AllDiffExcept xs taken) a.box b.box)
+pub free_says : {E : Type 0} (xs : List Term) (taken : List ℤ) (a b : Stored) (result : Result Passed E) → IsReady a.box xs → AreFree taken xs a.box → IfOk result (Step (AreNarrowed xs taken) (Holds (con.AllDiffExcept xs taken)) a b) → IfOk result (Concludes (con.AllDiffExcept xs taken) a.box b.box)
 free_says xs taken a b (Ok answer) ready free step = free_concludes xs taken a b answer ready free step
 free_says xs taken a b (Err e) ready free step = tt

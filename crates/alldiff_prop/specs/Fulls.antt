@@ -1,6 +1,6 @@
 -- The numbers up to which there are exactly as many greatest values of members as numbers that aren't taken.
 use Rattle.std.specs.Prelude.{◌≡◌, ℕ, ◌+◌, ◌<◌, ◌≤◌, List, length, slice_index_or, ℤ, pos, ◌≤ℤ◌, All, Contains}
-use Rattle.fzn_model.specs.Kept.{IsValue}
+use Rattle.fzn_model.specs.Limits.{IsValue}
 use Rattle.dom_store.specs.Strength.{free_count}
 use Rattle.alldiff_prop.specs.Rising.{Climbs}
 

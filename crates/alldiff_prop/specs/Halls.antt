@@ -1,7 +1,7 @@
 -- Intervals that as many members lie within as they have numbers that aren't taken.
 use Rattle.std.specs.Prelude.{◌≡◌, ◌≤◌, ◌⊎◌, true, List, ℤ, ◌≤ℤ◌, All, Contains}
 use Rattle.fzn_model.specs.declared.term.Term.{Term}
-use Rattle.fzn_model.specs.Kept.{IsValue}
+use Rattle.fzn_model.specs.Limits.{IsValue}
 use Rattle.fzn_model.specs.Bounds.{term_low, term_high}
 use Rattle.dom_store.specs.Strength.{is_inside, inside_count, free_count, IsOutside, IsHallInterval}
 use Rattle.alldiff_prop.specs.Rising.{Climbs}
@@ -26,9 +26,9 @@ unfoldable pub IsApart : ℤ → List ℤ → Term → List (List ℤ) → Type 
 IsApart low fulls t box = All (IsClear box t low) fulls
 
 -- where no bound of a member is taken, nor low is: each interval from low on is as it is to be
-unfoldable pub IsSettled : List Term → List ℤ → ℤ → List (List ℤ) → Type 0
-IsSettled xs taken low box = All (λ x. BoundsAreFree taken x box) xs → (Contains taken low → ⊥) → (high : ℤ) → low ≤ℤ high → IsHallInterval box xs taken low high
+unfoldable pub IsNarrowedFrom : List Term → List ℤ → ℤ → List (List ℤ) → Type 0
+IsNarrowedFrom xs taken low box = All (λ x. BoundsAreFree taken x box) xs → (Contains taken low → ⊥) → (high : ℤ) → low ≤ℤ high → IsHallInterval box xs taken low high
 
 -- so from the least value of each member
-unfoldable pub AreSettled : List Term → List ℤ → List (List ℤ) → Type 0
-AreSettled xs taken box = All (λ x. IsSettled xs taken (term_low box x) box) xs
+unfoldable pub AreNarrowed : List Term → List ℤ → List (List ℤ) → Type 0
+AreNarrowed xs taken box = All (λ x. IsNarrowedFrom xs taken (term_low box x) box) xs

@@ -1,7 +1,7 @@
 -- The bounds of all members.
 use Rattle.std.specs.Prelude.{◌≡◌, List, map, filter, ℤ, int_le, All, Contains}
 use Rattle.fzn_model.specs.declared.term.Term.{Term}
-use Rattle.fzn_model.specs.Kept.{IsValue}
+use Rattle.fzn_model.specs.Limits.{IsValue}
 use Rattle.fzn_model.specs.Bounds.{term_low, term_high}
 use Rattle.dom_store.specs.Strength.{inside_count}
 use Rattle.alldiff_prop.specs.Rising.{Climbs, how_many_to}

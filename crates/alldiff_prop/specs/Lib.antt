@@ -1,6 +1,6 @@
 pub mod Kinds
 pub mod Rising
-pub mod Steps
+pub mod Strict
 pub mod Members
 pub mod Untaken
 pub mod Highs

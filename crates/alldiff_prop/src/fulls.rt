@@ -1,6 +1,6 @@
 //! The intervals from a number on that have as many members within them as numbers that aren't taken.
 ghost use Rattle.std.specs.Prelude.{◌≡◌, ◌+◌, ◌<◌, length, pos, IfOk, IfSome, IfNone, slice_index_or};
-ghost use Rattle.fzn_model.specs.Kept.{IsValue};
+ghost use Rattle.fzn_model.specs.Limits.{IsValue};
 ghost use Rattle.dom_store.specs.Strength.{free_count};
 ghost use Rattle.alldiff_prop.specs.Rising.{Climbs};
 ghost use Rattle.alldiff_prop.specs.Fulls.{AreBetween, HasOverfull, AreFullsTo};

@@ -1,6 +1,6 @@
 //! The bounds of all members, in order.
 ghost use Rattle.std.specs.Prelude.{◌≡◌, map, length, All, IfOk};
-ghost use Rattle.fzn_model.specs.Kept.{TermIn, IsValue};
+ghost use Rattle.fzn_model.specs.Limits.{TermIn};
 ghost use Rattle.fzn_model.specs.Bounds.{term_low};
 ghost use Rattle.alldiff_prop.specs.Members.{IsReady};
 ghost use Rattle.alldiff_prop.specs.Highs.{highs_of, IsHighs, AreLows};

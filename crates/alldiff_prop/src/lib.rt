@@ -24,7 +24,7 @@ mod rising;
 mod taken;
 
 // One term is narrowed.
-mod steps;
+mod strict;
 
 // The parts of a pass, and a whole pass.
 mod fulls;

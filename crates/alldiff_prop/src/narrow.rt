@@ -1,20 +1,21 @@
 //! Members are narrowed to what full intervals leave.
 ghost use Rattle.std.specs.Prelude.{◌≤ℤ◌, ◌<ℤ◌, Contains, length, IfOk};
 ghost use Rattle.fzn_model.specs.declared.con.Con.TheVariants as con;
-ghost use Rattle.fzn_model.specs.Kept.{IsValue, TermIn};
+ghost use Rattle.fzn_model.specs.Limits.{IsValue, TermIn};
 ghost use Rattle.fzn_model.specs.Bounds.{term_low, term_high};
-ghost use Rattle.dom_store.specs.Propagation.{Runs};
+ghost use Rattle.dom_store.specs.Narrowing.{Prunes};
 ghost use Rattle.alldiff_prop.specs.Rising.{Climbs, IsSplit};
-ghost use Rattle.alldiff_prop.specs.Steps.{Steps, EachTo};
+ghost use Rattle.dom_store.specs.Steps.{Step, EachTo};
 ghost use Rattle.alldiff_prop.specs.Members.{IsReady};
-ghost use Rattle.alldiff_prop.specs.Halls.{AreFull, IsApart, IsSettled, AreSettled};
+ghost use Rattle.alldiff_prop.specs.Halls.{AreFull, IsApart, IsNarrowedFrom, AreNarrowed};
+ghost use Rattle.fzn_model.specs.Meaning.{Holds};
 
 use crate::fulls::fulls_from;
 use crate::highs::{highs_from, lows_of};
 use crate::rising::count_below;
-use crate::steps::{cap_before, raise_past, witness};
+use crate::strict::{keep_above, keep_below};
 use crate::taken::Taken;
-use dom_store::{Passed, Store, greatest, least};
+use dom_store::{Passed, Store, greatest, least, recall_domains};
 use fzn_model::Term;
 use std::alloc::{AllocError, Global};
 
@@ -41,13 +42,13 @@ fn raise_member(
     requires member { Contains members.now term }
     requires full { AreFull members.now taken.now low.now fulls.now store.old.box }
     requires after { low.now ≤ℤ term_low store.old.box term }
-    ensures { Steps (IsApart low.now fulls.now term) (con.AllDiffExcept members.now taken.now) store.old store.new result }
+    ensures { Step (IsApart low.now fulls.now term) (Holds (con.AllDiffExcept members.now taken.now)) store.old store.new result }
 {
     let ended = count_ended(store, term, fulls);
     if ended == 0 {
         return Passed::Done;
     }
-    raise_past(store, term, &fulls[ended - 1])
+    keep_above(store, term, &fulls[ended - 1])
 }
 
 /// Caps a member that begins before a number, and ends in a full interval from that number on, or before it.
@@ -64,12 +65,12 @@ fn cap_member(
     requires low { IsValue low.now }
     requires full { AreFull members.now taken.now low.now fulls.now store.old.box }
     requires before { term_low store.old.box term <ℤ low.now }
-    ensures { Steps (IsApart low.now fulls.now term) (con.AllDiffExcept members.now taken.now) store.old store.new result }
+    ensures { Step (IsApart low.now fulls.now term) (Holds (con.AllDiffExcept members.now taken.now)) store.old store.new result }
 {
     if count_ended(store, term, fulls) == fulls.len() {
         return Passed::Done;
     }
-    cap_before(store, term, low)
+    keep_below(store, term, low)
 }
 
 /// Keeps the values of a member outside the full intervals from a number on that it isn't within, at its bounds.
@@ -85,7 +86,7 @@ fn narrow_member(
     requires member { Contains members.now term }
     requires low { IsValue low.now }
     requires full { AreFull members.now taken.now low.now fulls.now store.old.box }
-    ensures { Steps (IsApart low.now fulls.now term) (con.AllDiffExcept members.now taken.now) store.old store.new result }
+    ensures { Step (IsApart low.now fulls.now term) (Holds (con.AllDiffExcept members.now taken.now)) store.old store.new result }
 {
     if least(store, term) < *low {
         cap_member(store, members, taken, term, low, fulls)
@@ -105,9 +106,9 @@ fn narrow_members(
     requires ready { IsReady store.old.box members.now }
     requires low { IsValue low.now }
     requires full { AreFull members.now taken.now low.now fulls.now store.old.box }
-    ensures { Steps (EachTo (IsApart low.now fulls.now) members.now (length members.now)) (con.AllDiffExcept members.now taken.now) store.old store.new result }
+    ensures { Step (EachTo (IsApart low.now fulls.now) members.now (length members.now)) (Holds (con.AllDiffExcept members.now taken.now)) store.old store.new result }
 {
-    witness(store);
+    recall_domains(store);
     for term in members {
         if let Passed::Empty = narrow_member(store, members, taken, *term, low, fulls) {
             return Passed::Empty;
@@ -126,8 +127,8 @@ fn narrow_from(
 ) -> Result<Passed, AllocError>
     requires ready { IsReady store.old.box members.now }
     requires low { IsValue low.now }
-    ensures runs { Runs (con.AllDiffExcept members.now taken.now) store.old store.new }
-    ensures steps { IfOk result (Steps (IsSettled members.now taken.now low.now) (con.AllDiffExcept members.now taken.now) store.old store.new) }
+    ensures prunes { Prunes (Holds (con.AllDiffExcept members.now taken.now)) store.old store.new }
+    ensures steps { IfOk result (Step (IsNarrowedFrom members.now taken.now low.now) (Holds (con.AllDiffExcept members.now taken.now)) store.old store.new) }
 {
     let highs = highs_from(alloc, store, members, low)?;
     match fulls_from(alloc, taken, low, highs.as_slice())? {
@@ -144,8 +145,8 @@ pub fn narrow_all(
     taken: &Taken,
 ) -> Result<Passed, AllocError>
     requires { IsReady store.old.box members.now }
-    ensures runs { Runs (con.AllDiffExcept members.now taken.now) store.old store.new }
-    ensures steps { IfOk result (Steps (AreSettled members.now taken.now) (con.AllDiffExcept members.now taken.now) store.old store.new) }
+    ensures prunes { Prunes (Holds (con.AllDiffExcept members.now taken.now)) store.old store.new }
+    ensures steps { IfOk result (Step (AreNarrowed members.now taken.now) (Holds (con.AllDiffExcept members.now taken.now)) store.old store.new) }
 {
     let lows = lows_of(alloc, store, members)?;
     for low in lows.as_slice() {

@@ -1,15 +1,15 @@
 //! A whole pass.
 ghost use Rattle.std.specs.Prelude.{IfOk};
 ghost use Rattle.fzn_model.specs.declared.con.Con.TheVariants as con;
-ghost use Rattle.fzn_model.specs.Booleans.{Suits};
-ghost use Rattle.dom_store.specs.Propagation.{Runs};
+ghost use Rattle.fzn_model.specs.Booleans.{FitsBox};
+ghost use Rattle.dom_store.specs.Narrowing.{Prunes};
 ghost use Rattle.dom_store.specs.Passes.{Concludes};
+ghost use Rattle.fzn_model.specs.Meaning.{Holds};
 
 use crate::narrow::narrow_all;
-use crate::steps::witness;
 use crate::taken::Taken;
 use crate::untaken::{are_free, drop_taken};
-use dom_store::{Passed, Store};
+use dom_store::{Passed, Store, recall_domains};
 use fzn_model::Term;
 use std::alloc::{AllocError, Global};
 
@@ -20,11 +20,11 @@ pub fn pass_all_different(
     members: &[Term],
     taken: &Taken,
 ) -> Result<Passed, AllocError>
-    requires { Suits store.old.box (con.AllDiffExcept members.now taken.now) }
-    ensures runs { Runs (con.AllDiffExcept members.now taken.now) store.old store.new }
-    ensures says { IfOk result (Concludes (con.AllDiffExcept members.now taken.now) store.old.box store.new.box) }
+    requires { FitsBox store.old.box (con.AllDiffExcept members.now taken.now) }
+    ensures prunes { Prunes (Holds (con.AllDiffExcept members.now taken.now)) store.old store.new }
+    ensures means { IfOk result (Concludes (con.AllDiffExcept members.now taken.now) store.old.box store.new.box) }
 {
-    witness(store);
+    recall_domains(store);
     if !are_free(store, members, taken) {
         return Ok(drop_taken(store, members, taken));
     }

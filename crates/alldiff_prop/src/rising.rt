@@ -1,5 +1,4 @@
 //! Numbers in order.
-ghost use Rattle.std.specs.Prelude.{◌≡◌};
 ghost use Rattle.alldiff_prop.specs.Rising.{Climbs, IsSplit, IsRising};
 
 /// How many of the numbers, none of which is greater than a later one, are less than another.

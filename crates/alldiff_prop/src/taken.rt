@@ -1,6 +1,6 @@
 //! The taken numbers.
 ghost use Rattle.std.specs.Prelude.{◌≡◌, ◌↔◌, ◌≤ℤ◌, ◌+◌, ◌+ℤ◌, pos, IsTrue, IfOk, Contains};
-ghost use Rattle.fzn_model.specs.Kept.{IsValue};
+ghost use Rattle.fzn_model.specs.Limits.{IsValue};
 ghost use Rattle.dom_store.specs.Strength.{free_count};
 ghost use Rattle.alldiff_prop.specs.Rising.{Rises, how_many_within};
 

@@ -1,14 +1,14 @@
 //! The bounds of members that are taken.
 ghost use Rattle.std.specs.Prelude.{◌↔◌, Contains, All, IsTrue, length};
-ghost use Rattle.fzn_model.specs.Kept.{TermIn};
+ghost use Rattle.fzn_model.specs.Limits.{TermIn};
 ghost use Rattle.fzn_model.specs.declared.con.Con.TheVariants as con;
-ghost use Rattle.alldiff_prop.specs.Steps.{Steps, EachTo};
+ghost use Rattle.dom_store.specs.Steps.{Step, EachTo};
 ghost use Rattle.alldiff_prop.specs.Members.{IsReady};
 ghost use Rattle.alldiff_prop.specs.Untaken.{LowIsFree, HighIsFree, BoundsAreFree, AreFree};
+ghost use Rattle.fzn_model.specs.Meaning.{Holds};
 
-use crate::steps::{drop_value, witness};
 use crate::taken::Taken;
-use dom_store::{Passed, Store, greatest, least};
+use dom_store::{Passed, Store, drop_value, greatest, least, recall_domains};
 use fzn_model::Term;
 
 /// Whether no bound of a term is taken.
@@ -33,7 +33,7 @@ pub fn are_free(store: &Store, members: &[Term], taken: &Taken) -> bool
 fn drop_low(store: &mut Store, members: &[Term], taken: &Taken, term: Term) -> Passed
     requires ready { IsReady store.old.box members.now }
     requires member { Contains members.now term }
-    ensures { Steps (LowIsFree taken.now term) (con.AllDiffExcept members.now taken.now) store.old store.new result }
+    ensures { Step (LowIsFree taken.now term) (Holds (con.AllDiffExcept members.now taken.now)) store.old store.new result }
 {
     let low = least(store, term);
     if !taken.has(&low) {
@@ -46,7 +46,7 @@ fn drop_low(store: &mut Store, members: &[Term], taken: &Taken, term: Term) -> P
 fn drop_high(store: &mut Store, members: &[Term], taken: &Taken, term: Term) -> Passed
     requires ready { IsReady store.old.box members.now }
     requires member { Contains members.now term }
-    ensures { Steps (HighIsFree taken.now term) (con.AllDiffExcept members.now taken.now) store.old store.new result }
+    ensures { Step (HighIsFree taken.now term) (Holds (con.AllDiffExcept members.now taken.now)) store.old store.new result }
 {
     let high = greatest(store, term);
     if !taken.has(&high) {
@@ -59,7 +59,7 @@ fn drop_high(store: &mut Store, members: &[Term], taken: &Taken, term: Term) -> 
 fn drop_bounds(store: &mut Store, members: &[Term], taken: &Taken, term: Term) -> Passed
     requires ready { IsReady store.old.box members.now }
     requires member { Contains members.now term }
-    ensures { Steps (BoundsAreFree taken.now term) (con.AllDiffExcept members.now taken.now) store.old store.new result }
+    ensures { Step (BoundsAreFree taken.now term) (Holds (con.AllDiffExcept members.now taken.now)) store.old store.new result }
 {
     if let Passed::Empty = drop_low(store, members, taken, term) {
         return Passed::Empty;
@@ -70,9 +70,9 @@ fn drop_bounds(store: &mut Store, members: &[Term], taken: &Taken, term: Term) -
 /// Drops each bound of the members that is taken.
 pub fn drop_taken(store: &mut Store, members: &[Term], taken: &Taken) -> Passed
     requires { IsReady store.old.box members.now }
-    ensures { Steps (EachTo (BoundsAreFree taken.now) members.now (length members.now)) (con.AllDiffExcept members.now taken.now) store.old store.new result }
+    ensures { Step (EachTo (BoundsAreFree taken.now) members.now (length members.now)) (Holds (con.AllDiffExcept members.now taken.now)) store.old store.new result }
 {
-    witness(store);
+    recall_domains(store);
     for term in members {
         if let Passed::Empty = drop_bounds(store, members, taken, *term) {
             return Passed::Empty;

@@ -5,7 +5,7 @@ use Rattle.std.proofs.lemmas.Int.{ints}
 use Rattle.std.proofs.lemmas.Bool.{cases_lt}
 use Rattle.std.proofs.lemmas.List.{get_or_default}
 use Rattle.fzn_model.specs.declared.term.Term.{Term}
-use Rattle.fzn_model.specs.Kept.{TermIn}
+use Rattle.fzn_model.specs.Limits.{TermIn}
 use Rattle.arith_prop.specs.declared.bounds.End.{End}
 use Rattle.arith_prop.specs.Extremes.{bound_of, IsHigher, IsLower, IsHighest, IsLowest}
 

@@ -1,5 +1,5 @@
 pub mod Products
-pub mod Stepping
+pub mod Passing
 pub mod Multiplying
 pub mod Bounding
 pub mod Choosing

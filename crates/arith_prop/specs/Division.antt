@@ -1,7 +1,7 @@
 -- Two terms that have one value each: the arguments of a division.
 use Rattle.std.specs.Prelude.{List, ℤ}
 use Rattle.fzn_model.specs.declared.term.Term.{Term}
-use Rattle.fzn_model.specs.Kept.{IsValue}
+use Rattle.fzn_model.specs.Limits.{IsValue}
 use Rattle.fzn_model.specs.Bounds.{IsFixed, IsAt}
 
 -- the term has this one value

@@ -9,7 +9,7 @@ use Rattle.dom_store.specs.Stores.{Stored}
 use Rattle.fzn_model.specs.Bounds.{term_low, term_high}
 use Rattle.arith_prop.specs.declared.bounds.End.{End}
 use Rattle.arith_prop.specs.declared.bounds.End.TheVariants as end
-use Rattle.arith_prop.specs.Steps.{Steps}
+use Rattle.dom_store.specs.Steps.{Step}
 
 -- one of the two bounds of a term
 unfoldable pub bound_of : List (List ℤ) → End → Term → ℤ
@@ -51,7 +51,7 @@ LowsOrdered x m box = term_low box x ≤ℤ term_low box m
 
 -- what is a step for each constraint whose assignments have two terms in order
 pub record Orders (P : List (List ℤ) → Type 0) (x m : Term) (old new : Stored) (result : Passed) : Type 0 where
-  pub step : (c : Con) → IsOrdered c x m old.box → Steps P c old new result
+  pub step : (c : Con) → IsOrdered c x m old.box → Step P (Holds c) old new result
 
 -- ---- the greatest of a list
 -- it is at least each low

@@ -1,6 +1,6 @@
 pub mod Kinds
 pub mod Parts
-pub mod Steps
+pub mod Passes
 pub mod Corners
 pub mod Times
 pub mod Extremes

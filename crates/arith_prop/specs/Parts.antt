@@ -1,8 +1,8 @@
 -- Constraints from the parts that a propagator keeps.
 use Rattle.fzn_model.specs.declared.con.Con.{Con}
 use Rattle.fzn_model.specs.declared.con.Con.TheVariants as con
-use Rattle.arith_prop.specs.declared.prop.Kind.{Kind}
-use Rattle.arith_prop.specs.declared.prop.Kind.TheVariants as kind
+use Rattle.arith_prop.specs.declared.arith_prop.Kind.{Kind}
+use Rattle.arith_prop.specs.declared.arith_prop.Kind.TheVariants as kind
 
 abbrev pub con_of : Kind → Con
 con_of (kind.Times a b c) = con.Times a b c

@@ -1,6 +1,6 @@
 //! The terms of a list with the greatest or the least bound.
 ghost use Rattle.std.specs.Prelude.{◌≡◌, length};
-ghost use Rattle.fzn_model.specs.Kept.{TermIn, ListKept};
+ghost use Rattle.fzn_model.specs.Limits.{TermIn, ListInLimits};
 ghost use Rattle.arith_prop.specs.Extremes.{bound_of, IsHigher, IsLower, IsHighest, IsLowest};
 
 use dom_store::{Store, greatest, least};
@@ -53,7 +53,7 @@ fn lower(store: &Store, first: Term, second: Term, end: End) -> Term
 /// A term of the list with the greatest bound.
 #[tactic(auto, using(crate::proofs::Bounding::highest_start, crate::proofs::Bounding::highest_more, crate::proofs::Bounding::higher_in))]
 pub(crate) fn highest(store: &Store, terms: &[Term], end: End) -> Term
-    requires { ListKept (length store.now.box) terms.now }
+    requires { ListInLimits (length store.now.box) terms.now }
     ensures bound { IsHighest store.now.box end (length terms.now) terms.now result }
     ensures inside { TermIn (length store.now.box) result }
 {
@@ -67,7 +67,7 @@ pub(crate) fn highest(store: &Store, terms: &[Term], end: End) -> Term
 /// A term of the list with the least bound.
 #[tactic(auto, using(crate::proofs::Bounding::lowest_start, crate::proofs::Bounding::lowest_more, crate::proofs::Bounding::lower_in))]
 pub(crate) fn lowest(store: &Store, terms: &[Term], end: End) -> Term
-    requires { ListKept (length store.now.box) terms.now }
+    requires { ListInLimits (length store.now.box) terms.now }
     ensures bound { IsLowest store.now.box end (length terms.now) terms.now result }
     ensures inside { TermIn (length store.now.box) result }
 {

@@ -1,12 +1,11 @@
 ghost use Rattle.std.specs.Prelude.{◌≡◌, length, pos, int_div, int_rem, IfSome, IfNone};
 ghost use Rattle.fzn_model.specs.declared.con.Con.TheVariants as con;
 ghost use Rattle.fzn_model.specs.Boxes.{IsBox};
-ghost use Rattle.fzn_model.specs.Kept.{TermIn, IsValue, ConKept, of_call};
+ghost use Rattle.fzn_model.specs.Limits.{TermIn, IsValue, ConInLimits, of_call};
 ghost use Rattle.arith_prop.specs.Division.{IsOnly, AreOnly, IsLoose, AreLoose};
-ghost use Rattle.arith_prop.specs.Steps.{IsPass};
+ghost use Rattle.arith_prop.specs.Passes.{IsPass};
 
-use crate::steps::settle_at;
-use dom_store::{Passed, Store, greatest, least};
+use dom_store::{Passed, Store, fix, greatest, least, recall_domains};
 use fzn_model::Term;
 
 /// The only value of a term, where it has but one.
@@ -31,9 +30,9 @@ fn arguments(store: &Store, a: Term, b: Term) -> Option<(i64, i64)>
     requires second { TermIn (length store.now.box) b }
     ensures some { IfSome result (λ values. AreOnly store.now.box a b values) }
     ensures none { IfNone result (AreLoose store.now.box a b) }
-    ensures sound { IsBox store.now.box }
+    ensures well_formed { IsBox store.now.box }
 {
-    let _count = store.count();
+    recall_domains(store);
     match (only(store, a), only(store, b)) {
         (Some(dividend), Some(divisor)) => Some((dividend, divisor)),
         _ => None,
@@ -58,50 +57,50 @@ fn remainder(args: &(i64, i64)) -> i64
     args.0 % args.1
 }
 
-/// Settles the result at the quotient of two values.
-fn settle_quotient(store: &mut Store, a: Term, b: Term, c: Term, args: &(i64, i64)) -> Passed
-    requires kept { ConKept of_call (length store.old.box) (con.Div a b c) }
-    requires sound { IsBox store.old.box }
+/// WholeMeans the result at the quotient of two values.
+fn fix_quotient(store: &mut Store, a: Term, b: Term, c: Term, args: &(i64, i64)) -> Passed
+    requires kept { ConInLimits of_call (length store.old.box) (con.Div a b c) }
+    requires well_formed { IsBox store.old.box }
     requires only { AreOnly store.old.box a b args.now }
     ensures { IsPass (con.Div a b c) store.old store.new result }
 {
     if args.1 == 0 {
         return Passed::Empty;
     }
-    settle_at(store, c, quotient(args))
+    fix(store, c, &quotient(args))
 }
 
-/// Settles the result at what the division of two values leaves.
-fn settle_remainder(store: &mut Store, a: Term, b: Term, c: Term, args: &(i64, i64)) -> Passed
-    requires kept { ConKept of_call (length store.old.box) (con.Mod a b c) }
-    requires sound { IsBox store.old.box }
+/// WholeMeans the result at what the division of two values leaves.
+fn fix_remainder(store: &mut Store, a: Term, b: Term, c: Term, args: &(i64, i64)) -> Passed
+    requires kept { ConInLimits of_call (length store.old.box) (con.Mod a b c) }
+    requires well_formed { IsBox store.old.box }
     requires only { AreOnly store.old.box a b args.now }
     ensures { IsPass (con.Mod a b c) store.old store.new result }
 {
     if args.1 == 0 {
         return Passed::Empty;
     }
-    settle_at(store, c, remainder(args))
+    fix(store, c, &remainder(args))
 }
 
-/// One pass over `a / b = c`: where the arguments are fixed, settles the result.
+/// One pass over `a / b = c`: where the arguments are fixed, fixes the result.
 pub(crate) fn pass_div(store: &mut Store, a: Term, b: Term, c: Term) -> Passed
-    requires { ConKept of_call (length store.old.box) (con.Div a b c) }
+    requires { ConInLimits of_call (length store.old.box) (con.Div a b c) }
     ensures { IsPass (con.Div a b c) store.old store.new result }
 {
     match arguments(store, a, b) {
-        Some(args) => settle_quotient(store, a, b, c, &args),
+        Some(args) => fix_quotient(store, a, b, c, &args),
         None => Passed::Done,
     }
 }
 
-/// One pass over what `a / b` leaves: where the arguments are fixed, settles the result.
+/// One pass over what `a / b` leaves: where the arguments are fixed, fixes the result.
 pub(crate) fn pass_mod(store: &mut Store, a: Term, b: Term, c: Term) -> Passed
-    requires { ConKept of_call (length store.old.box) (con.Mod a b c) }
+    requires { ConInLimits of_call (length store.old.box) (con.Mod a b c) }
     ensures { IsPass (con.Mod a b c) store.old store.new result }
 {
     match arguments(store, a, b) {
-        Some(args) => settle_remainder(store, a, b, c, &args),
+        Some(args) => fix_remainder(store, a, b, c, &args),
         None => Passed::Done,
     }
 }

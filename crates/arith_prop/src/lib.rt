@@ -16,8 +16,8 @@
 //! What it stands on: dom_store for domains and runs of passes, fzn_model for constraints.
 #![tactic(auto)]
 
-// What a step answers, and the narrowings that steps are made of.
-mod steps;
+// The hull of a term.
+mod hull;
 
 // The terms of a list with the greatest or the least bound.
 mod bounds;
@@ -29,6 +29,6 @@ mod extremes;
 mod times;
 
 // The propagator of all of them.
-mod prop;
+mod arith_prop;
 
-pub use prop::ArithProp;
+pub use arith_prop::ArithProp;

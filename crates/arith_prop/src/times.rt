@@ -1,12 +1,14 @@
 ghost use Rattle.std.specs.Prelude.{◌≡◌, ◌*ℤ◌, length};
 ghost use Rattle.fzn_model.specs.declared.con.Con.TheVariants as con;
-ghost use Rattle.fzn_model.specs.Kept.{IsValue, ConKept, of_call};
+ghost use Rattle.fzn_model.specs.Limits.{IsValue, ConInLimits, of_call};
 ghost use Rattle.arith_prop.specs.Corners.{least_corner, greatest_corner};
-ghost use Rattle.arith_prop.specs.Steps.{Steps, IsPass};
+ghost use Rattle.dom_store.specs.Steps.{Step};
+ghost use Rattle.arith_prop.specs.Passes.{IsPass};
 ghost use Rattle.arith_prop.specs.Times.{ProductRaised, ProductCapped};
+ghost use Rattle.fzn_model.specs.Meaning.{Holds};
 
-use crate::steps::{cap_to, hull, raise_to};
-use dom_store::{Passed, Store};
+use crate::hull::hull;
+use dom_store::{Passed, Store, cut_above, cut_below};
 use fzn_model::Term;
 
 /// The product of two values.
@@ -42,25 +44,25 @@ fn greatest_product(a: &(i64, i64), b: &(i64, i64)) -> i64
 
 /// Raises the result to the least product of the bounds of the factors.
 fn raise_product(store: &mut Store, a: Term, b: Term, c: Term) -> Passed
-    requires { ConKept of_call (length store.old.box) (con.Times a b c) }
-    ensures { Steps (ProductRaised a b c) (con.Times a b c) store.old store.new result }
+    requires { ConInLimits of_call (length store.old.box) (con.Times a b c) }
+    ensures { Step (ProductRaised a b c) (Holds (con.Times a b c)) store.old store.new result }
 {
     let low = least_product(&hull(store, a), &hull(store, b));
-    raise_to(store, c, low)
+    cut_below(store, c, &low)
 }
 
 /// Caps the result at the greatest product of the bounds of the factors.
 fn cap_product(store: &mut Store, a: Term, b: Term, c: Term) -> Passed
-    requires { ConKept of_call (length store.old.box) (con.Times a b c) }
-    ensures { Steps (ProductCapped a b c) (con.Times a b c) store.old store.new result }
+    requires { ConInLimits of_call (length store.old.box) (con.Times a b c) }
+    ensures { Step (ProductCapped a b c) (Holds (con.Times a b c)) store.old store.new result }
 {
     let high = greatest_product(&hull(store, a), &hull(store, b));
-    cap_to(store, c, high)
+    cut_above(store, c, &high)
 }
 
 /// One pass over `a * b = c`: narrows the result to the products of the bounds of the factors.
 pub(crate) fn pass_times(store: &mut Store, a: Term, b: Term, c: Term) -> Passed
-    requires { ConKept of_call (length store.old.box) (con.Times a b c) }
+    requires { ConInLimits of_call (length store.old.box) (con.Times a b c) }
     ensures { IsPass (con.Times a b c) store.old store.new result }
 {
     match raise_product(store, a, b, c) {

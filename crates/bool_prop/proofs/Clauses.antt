@@ -4,25 +4,24 @@ use Rattle.std.specs.Prelude.{ℤ, pos, ◌≤ℤ◌, ◌<ℤ◌, All, Any, Cont
 use Rattle.std.proofs.lemmas.Int.{ints}
 use Rattle.std.proofs.lemmas.List.{get_or_default, drop_all}
 use Rattle.std.proofs.lemmas.List.Elements.{filter-append}
-use Rattle.dom_store.specs.Answers.{Narrow, Same, Changed, Empty}
 use Rattle.fzn_model.specs.declared.term.Term.{Term}
 use Rattle.fzn_model.specs.declared.term.Term.TheVariants as term
 use Rattle.fzn_model.specs.declared.clause.Clause.{Clause}
 use Rattle.fzn_model.specs.Meaning.{val, Holds, HasValue}
-use Rattle.fzn_model.specs.Kept.{TermIn, ClauseKept}
+use Rattle.fzn_model.specs.Limits.{TermIn, ClauseInLimits}
 use Rattle.fzn_model.specs.Boxes.{IsBox, InBox}
 use Rattle.dom_store.specs.declared.pass.Passed.TheVariants as passed
+use Rattle.dom_store.specs.declared.pass.Passed.{Passed}
 use Rattle.dom_store.specs.Stores.{Stored}
 use Rattle.dom_store.specs.Narrowing.{HasNone}
-use Rattle.dom_store.specs.Cuts.{Cuts}
+use Rattle.dom_store.specs.Steps.{Step, NarrowsTerm, Is, ValueIs}
+use Rattle.dom_store.proofs.Stepping.{narrowed, step_idle, step_none, step_as}
 use Rattle.fzn_model.specs.Bounds.{term_low, term_high, IsFixed, IsAt, is_open}
 use Rattle.dom_store.specs.Strength.{HasTrue, ClauseIsStrong, IsChecked, IsOwed}
-use Rattle.dom_store.specs.Propagation.{Runs}
-use Rattle.fzn_model.specs.Terms.{has_low, has_between, fixed_val, at_val}
-use Rattle.dom_store.specs.Laws.{cuts_run, cuts_none}
+use Rattle.fzn_model.proofs.Terms.{has_low, has_between, fixed_val, at_val}
 use Rattle.bool_prop.specs.Parts.{clause_con}
+use Rattle.bool_prop.specs.Owing.{ConIsOwed}
 use Rattle.bool_prop.specs.Opens.{joined, opens, IsLast, Finds}
-use Rattle.bool_prop.specs.Steps.{Concluded, passed_by}
 use Rattle.bool_prop.specs.declared.clause.Open.{Open}
 use Rattle.bool_prop.specs.declared.clause.Open.TheVariants as opened
 use Rattle.bool_prop.specs.declared.clause.Literals.TheVariants as literals
@@ -69,18 +68,18 @@ open_apart : (box : List (List ℤ)) (t : Term) → is_open box t ≡ true → I
 open_apart box t is fixed = let less : term_low box t <ℤ term_high box t = lt_test _ _ is in let one : term_low box t ≡ term_high box t = fixed in omega (arith, ints)
 
 closed_fixed : (box : List (List ℤ)) (t : Term) → IsBox box → TermIn (length box) t → is_open box t ≡ false → IsFixed box t
-closed_fixed box t sound inside is =
+closed_fixed box t well_formed inside is =
     let most : term_high box t ≤ℤ term_low box t = lt_fails _ _ is in
-    let least : term_low box t ≤ℤ term_high box t = (has_between box t (term_low box t) sound inside (has_low box t sound inside)).1 in
+    let least : term_low box t ≤ℤ term_high box t = (has_between box t (term_low box t) well_formed inside (has_low box t well_formed inside)).1 in
     omega (arith, ints)
 
 -- a place is open, and passes, or it is fixed
 place_is : (box : List (List ℤ)) (ts : List Term) (k : ℕ) (d : Term) → IsBox box → All (TermIn (length box)) ts → k < length ts → Contains (filter (is_open box) ts) (get_or ts k d) ⊎ IsFixed box (get_or ts k d)
-place_is box ts k d sound kept h = by_test (is_open box (get_or ts k d)) refl
+place_is box ts k d well_formed kept h = by_test (is_open box (get_or ts k d)) refl
   where
     by_test : (b : Bool) → is_open box (get_or ts k d) ≡ b → Contains (filter (is_open box) ts) (get_or ts k d) ⊎ IsFixed box (get_or ts k d)
     by_test true is = inl (filter_each (is_open box) ts k d h is)
-    by_test false is = inr (closed_fixed box (get_or ts k d) sound (kept k d h) is)
+    by_test false is = inr (closed_fixed box (get_or ts k d) well_formed (kept k d h) is)
 
 -- what the open terms of a list are, from what is found
 abbrev Listed : Open → List Term → Type 0
@@ -98,7 +97,7 @@ unfolding opens
 opens_listed box ts found is = subst (λ o. Listed o (filter (is_open box) ts)) is (listed (filter (is_open box) ts))
 
 none_open : (box : List (List ℤ)) (ts : List Term) → IsBox box → All (TermIn (length box)) ts → opens box ts ≡ opened.None → All (IsFixed box) ts
-none_open box ts sound kept is k d h = elim (place_is box ts k d sound kept h) [
+none_open box ts well_formed kept is k d h = elim (place_is box ts k d well_formed kept h) [
   | inl has ↦ let here : Contains [] (get_or ts k d) = subst (λ us. Contains us (get_or ts k d)) (opens_listed box ts opened.None is) has in absurd (omega (arith, here.1))
   | inr fixed ↦ fixed
 ]
@@ -108,7 +107,7 @@ only_is t u (zero, h, e) = sym e
 only_is t u (suc k, h, e) = absurd (omega arith)
 
 one_open : (box : List (List ℤ)) (ts : List Term) (t : Term) → IsBox box → All (TermIn (length box)) ts → opens box ts ≡ opened.One t → All (λ u. IsFixed box u ⊎ (u ≡ t)) ts
-one_open box ts t sound kept is k d h = elim (place_is box ts k d sound kept h) [
+one_open box ts t well_formed kept is k d h = elim (place_is box ts k d well_formed kept h) [
   | inl has ↦ inr (only_is t _ (subst (λ us. Contains us (get_or ts k d)) (opens_listed box ts (opened.One t) is) has))
   | inr fixed ↦ inl fixed
 ]
@@ -118,20 +117,20 @@ one_there box ts t is = (filter_from (is_open box) ts t (subst (λ us. Contains 
 
 -- ---- literals that are true
 true_at : (box : List (List ℤ)) (t : Term) (v : ℤ) (θ : List ℤ) → IsBox box → TermIn (length box) t → InBox box θ → IsFixed box t → val t θ ≡ v → IsAt box t v
-true_at box t v θ sound inside lies fixed is =
-    let one : val t θ ≡ term_low box t = fixed_val box t θ sound inside fixed lies in
+true_at box t v θ well_formed inside lies fixed is =
+    let one : val t θ ≡ term_low box t = fixed_val box t θ well_formed inside fixed lies in
     record { low = sym one ∙ is; high = sym fixed ∙ sym one ∙ is }
 
 -- what holds at a place of a list that has the term
 at_place : (P : Term → Type 0) (ts : List Term) (k : ℕ) (t : Term) → All P ts → k < length ts → get_or ts k t ≡ t → P t
 at_place P ts k t all h is = subst P is (all k t h)
 
-module _ (box : List (List ℤ)) (c : Clause) (sound : IsBox box) (kept : ClauseKept (length box) c) where
+module _ (box : List (List ℤ)) (c : Clause) (well_formed : IsBox box) (kept : ClauseInLimits (length box) c) where
   -- a true literal makes the clause hold
   true_holds : HasTrue box c → (θ : List ℤ) → InBox box θ → Holds (clause_con c) θ
   unfolding HasTrue HasValue
-  true_holds (inl (k, t, h, is, at)) θ lies = inl (k, t, h, is, at_val box t (pos 1) θ sound (at_place (TermIn (length box)) c.pos k t kept.pos.terms h is) at lies)
-  true_holds (inr (k, t, h, is, at)) θ lies = inr (k, t, h, is, at_val box t (pos 0) θ sound (at_place (TermIn (length box)) c.neg k t kept.neg.terms h is) at lies)
+  true_holds (inl (k, t, h, is, at)) θ lies = inl (k, t, h, is, at_val box t (pos 1) θ well_formed (at_place (TermIn (length box)) c.pos k t kept.pos.terms h is) at lies)
+  true_holds (inr (k, t, h, is, at)) θ lies = inr (k, t, h, is, at_val box t (pos 0) θ well_formed (at_place (TermIn (length box)) c.neg k t kept.neg.terms h is) at lies)
 
   pub true_owed : HasTrue box c → IsOwed box (clause_con c)
   unfolding ClauseIsStrong IsChecked
@@ -142,7 +141,7 @@ module _ (box : List (List ℤ)) (c : Clause) (sound : IsBox box) (kept : Clause
       → Any (λ t. IsAt box t v) ts ⊎ ((t : Term) × R t × (val t θ ≡ v))
   unfolding HasValue
   some_value ts v R θ inside all lies (k, t, h, is, value) = elim (at_place (λ u. IsFixed box u ⊎ R u) ts k t all h is) [
-    | inl fixed ↦ inl (k, t, h, is, true_at box t v θ sound (at_place (TermIn (length box)) ts k t inside h is) lies fixed value)
+    | inl fixed ↦ inl (k, t, h, is, true_at box t v θ well_formed (at_place (TermIn (length box)) ts k t inside h is) lies fixed value)
     | inr by ↦ inr (t, by, value)
   ]
 
@@ -179,15 +178,15 @@ module _ (box : List (List ℤ)) (c : Clause) (sound : IsBox box) (kept : Clause
   -- ---- what is found in both lists
   pub finds_none : opens box c.pos ≡ opened.None → opens box c.neg ≡ opened.None → Finds box c literals.None
   unfolding Finds
-  finds_none p n = fixed_none (none_open box c.pos sound kept.pos.terms p) (none_open box c.neg sound kept.neg.terms n)
+  finds_none p n = fixed_none (none_open box c.pos well_formed kept.pos.terms p) (none_open box c.neg well_formed kept.neg.terms n)
 
   pub finds_positive : (t : Term) → opens box c.pos ≡ opened.One t → opens box c.neg ≡ opened.None → Finds box c (literals.One t (pos 1))
   unfolding Finds
-  finds_positive t p n = last_positive t (one_there box c.pos t p) (one_open box c.pos t sound kept.pos.terms p) (none_open box c.neg sound kept.neg.terms n)
+  finds_positive t p n = last_positive t (one_there box c.pos t p) (one_open box c.pos t well_formed kept.pos.terms p) (none_open box c.neg well_formed kept.neg.terms n)
 
   pub finds_negative : (t : Term) → opens box c.pos ≡ opened.None → opens box c.neg ≡ opened.One t → Finds box c (literals.One t (pos 0))
   unfolding Finds
-  finds_negative t p n = last_negative t (one_there box c.neg t n) (none_open box c.pos sound kept.pos.terms p) (one_open box c.neg t sound kept.neg.terms n)
+  finds_negative t p n = last_negative t (one_there box c.neg t n) (none_open box c.pos well_formed kept.pos.terms p) (one_open box c.neg t well_formed kept.neg.terms n)
 
 -- two open places, whichever lists they are in
 abbrev fewest : Open → ℕ
@@ -221,33 +220,26 @@ more_owed box c enough = record { kind = inr enough; checked = λ fixed θ lies.
         let both = filter_from (is_open box) (c.pos ++ c.neg) t first in
         open_apart box t both.1 (at_place (IsFixed box) (c.pos ++ c.neg) both.0.0 t fixed both.0.1 both.0.2)
 
--- ---- the last open literal
-pub last_runs : (c : Clause) (t : Term) (v : ℤ) (old new : Stored) (answer : Narrow) → IsLast old.box c t v → (HasTrue old.box c → ⊥) → Cuts (λ z. z ≡ v) t old new answer → Runs (clause_con c) old new
-last_runs c t v old new answer last none cuts = cuts_run (λ z. z ≡ v) (clause_con c) t old new answer cuts (last.needs none)
-
-last_owed : (c : Clause) (t : Term) (v : ℤ) (old new : Stored) → IsBox old.box → ClauseKept (length old.box) c → IsLast old.box c t v → new.box ≡ old.box → IsAt new.box t v → IsOwed new.box (clause_con c)
-last_owed c t v old new sound kept last same at = true_owed new.box c (subst (λ b. IsBox b) (sym same) sound) (subst (λ b. ClauseKept (length b) c) (sym same) kept) (last.makes new.box at)
-
-pub last_says : (c : Clause) (t : Term) (v : ℤ) (old new : Stored) (answer : Narrow) → IsBox old.box → ClauseKept (length old.box) c → IsLast old.box c t v → (HasTrue old.box c → ⊥) → Cuts (λ z. z ≡ v) t old new answer
-    → ((answer ≡ Empty → ⊥) → IsAt new.box t v) → Concluded (clause_con c) old.box new.box (passed_by answer)
-unfolding Concluded
-last_says c t v old new Same sound kept last none cuts at = λ same. last_owed c t v old new sound kept last same (at (λ e. cc))
-last_says c t v old new Changed sound kept last none cuts at = λ same. last_owed c t v old new sound kept last same (at (λ e. cc))
-last_says c t v old new Empty sound kept last none cuts at = cuts_none (λ z. z ≡ v) (Holds (clause_con c)) t old new cuts (last.needs none)
-
--- ---- what the steps say
+-- ---- what the steps reach
 pub last_found : (box : List (List ℤ)) (c : Clause) (t : Term) (v : ℤ) → Finds box c (literals.One t v) → IsLast box c t v
 unfolding Finds
 last_found box c t v finds = finds
 
-pub true_says : (box : List (List ℤ)) (c : Clause) → IsBox box → ClauseKept (length box) c → HasTrue box c → Concluded (clause_con c) box box passed.Done
-unfolding Concluded
-true_says box c sound kept some same = true_owed box c sound kept some
+-- the last open literal
+pub last_fixed : (c : Clause) (t : Term) (v : ℤ) (old new : Stored) (result : Passed) → IsBox old.box → ClauseInLimits (length old.box) c → IsLast old.box c t v → (HasTrue old.box c → ⊥)
+    → NarrowsTerm (Is v) (ValueIs t v) t old new result → Step (ConIsOwed (clause_con c)) (Holds (clause_con c)) old new result
+unfolding ValueIs
+last_fixed c t v old new result well_formed limits last none narrows =
+    step_as (ValueIs t v) (ConIsOwed (clause_con c)) (Holds (clause_con c)) old new result
+    (λ same at. true_owed new.box c (subst (λ b. IsBox b) (sym same) well_formed) (subst (λ b. ClauseInLimits (length b) c) (sym same) limits) (last.makes new.box at))
+    (narrowed (Holds (clause_con c)) narrows (last.needs none))
 
-pub closed_says : (box : List (List ℤ)) (c : Clause) → Finds box c literals.None → (HasTrue box c → ⊥) → Concluded (clause_con c) box box passed.Empty
-unfolding Concluded Finds
-closed_says box c finds none = finds none
+pub true_left : (s : Stored) (c : Clause) → IsBox s.box → ClauseInLimits (length s.box) c → HasTrue s.box c → Step (ConIsOwed (clause_con c)) (Holds (clause_con c)) s s passed.Done
+true_left s c well_formed limits some = step_idle (ConIsOwed (clause_con c)) (Holds (clause_con c)) s well_formed (true_owed s.box c well_formed limits some)
 
-pub more_says : (box : List (List ℤ)) (c : Clause) → Finds box c literals.More → Concluded (clause_con c) box box passed.Done
-unfolding Concluded
-more_says box c finds same = more_owed box c finds
+pub closed_left : (s : Stored) (c : Clause) → IsBox s.box → Finds s.box c literals.None → (HasTrue s.box c → ⊥) → Step (ConIsOwed (clause_con c)) (Holds (clause_con c)) s s passed.Empty
+unfolding Finds
+closed_left s c well_formed finds none = step_none (ConIsOwed (clause_con c)) (Holds (clause_con c)) s well_formed (finds none)
+
+pub more_left : (s : Stored) (c : Clause) → IsBox s.box → Finds s.box c literals.More → Step (ConIsOwed (clause_con c)) (Holds (clause_con c)) s s passed.Done
+more_left s c well_formed finds = step_idle (ConIsOwed (clause_con c)) (Holds (clause_con c)) s well_formed (more_owed s.box c finds)

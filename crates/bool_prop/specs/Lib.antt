@@ -1,5 +1,6 @@
 pub mod Kinds
 pub mod Parts
 pub mod Opens
-pub mod Steps
-pub mod Places
+pub mod Inside
+pub mod Neighbours
+pub mod Owing

@@ -3,10 +3,10 @@ use Rattle.std.specs.Prelude.{◌≡◌, ◌≤◌, List, [], ◌∷◌, ◌++�
 use Rattle.fzn_model.specs.declared.term.Term.{Term}
 use Rattle.fzn_model.specs.declared.clause.Clause.{Clause}
 use Rattle.fzn_model.specs.Meaning.{Holds}
-use Rattle.fzn_model.specs.Kept.{TermIn}
+use Rattle.fzn_model.specs.Limits.{TermIn}
 use Rattle.dom_store.specs.Narrowing.{HasNone}
 use Rattle.fzn_model.specs.Bounds.{IsAt, is_open, open_count}
-use Rattle.dom_store.specs.Laws.{Spares}
+use Rattle.dom_store.specs.Steps.{Spares}
 use Rattle.dom_store.specs.Strength.{HasTrue}
 use Rattle.bool_prop.specs.Parts.{clause_con}
 use Rattle.bool_prop.specs.declared.clause.Open.{Open}

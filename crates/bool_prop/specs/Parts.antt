@@ -6,8 +6,8 @@ use Rattle.fzn_model.specs.declared.member.Member.{Member}
 use Rattle.fzn_model.specs.declared.base.Base.TheVariants as base
 use Rattle.fzn_model.specs.declared.con.Con.{Con}
 use Rattle.fzn_model.specs.declared.con.Con.TheVariants as con
-use Rattle.bool_prop.specs.declared.prop.Kind.{Kind}
-use Rattle.bool_prop.specs.declared.prop.Kind.TheVariants as kind
+use Rattle.bool_prop.specs.declared.clause_prop.Kind.{Kind}
+use Rattle.bool_prop.specs.declared.clause_prop.Kind.TheVariants as kind
 
 abbrev pub clause_of : List Term → List Term → Clause
 clause_of pos neg = record { pos = pos; neg = neg }

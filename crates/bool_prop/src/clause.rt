@@ -1,15 +1,15 @@
-ghost use Rattle.std.specs.Prelude.{◌≡◌, ◌↔◌, ◌+◌, ◌<◌, All, Any, IsTrue, length, pos};
+ghost use Rattle.std.specs.Prelude.{◌≡◌, ◌↔◌, ◌<◌, All, Any, IsTrue, length, pos};
 ghost use Rattle.fzn_model.specs.Boxes.{IsBox};
-ghost use Rattle.fzn_model.specs.Kept.{TermIn, ClauseKept};
+ghost use Rattle.fzn_model.specs.Limits.{TermIn, ClauseInLimits};
 ghost use Rattle.fzn_model.specs.Bounds.{IsAt, is_open};
 ghost use Rattle.dom_store.specs.Strength.{HasTrue};
-ghost use Rattle.dom_store.specs.Propagation.{Runs};
 ghost use Rattle.bool_prop.specs.Parts.{clause_of, clause_con};
 ghost use Rattle.bool_prop.specs.Opens.{opens, Finds, IsLast};
-ghost use Rattle.bool_prop.specs.Steps.{Concluded};
+ghost use Rattle.dom_store.specs.Steps.{Step};
+ghost use Rattle.bool_prop.specs.Owing.{ConIsOwed};
+ghost use Rattle.fzn_model.specs.Meaning.{Holds};
 
-use crate::steps::passed;
-use dom_store::{Passed, Store, greatest, least, settle};
+use dom_store::{Passed, Store, fix, greatest, least, recall_domains};
 use fzn_model::Term;
 
 /// The open terms of a list.
@@ -61,7 +61,7 @@ fn some_is_at(store: &Store, terms: &[Term], value: i64) -> bool
 /// Whether some literal is true.
 #[tactic(auto, unfolding(dom_store::specs::Strength::HasTrue))]
 fn has_true(store: &Store, pos: &[Term], neg: &[Term]) -> bool
-    requires { ClauseKept (length store.now.box) (clause_of pos.now neg.now) }
+    requires { ClauseInLimits (length store.now.box) (clause_of pos.now neg.now) }
     ensures { IsTrue result ↔ HasTrue store.now.box (clause_of pos.now neg.now) }
 {
     some_is_at(store, pos, 1) || some_is_at(store, neg, 0)
@@ -88,11 +88,11 @@ fn open_terms(store: &Store, terms: &[Term]) -> Open
 /// The open literals of a clause. The count of variables is asked for what the store keeps of their domains.
 #[tactic(auto, using(crate::proofs::Clauses::finds_none, crate::proofs::Clauses::finds_positive, crate::proofs::Clauses::finds_negative, crate::proofs::Clauses::finds_more))]
 fn open_literals(store: &Store, pos: &[Term], neg: &[Term]) -> Literals
-    requires { ClauseKept (length store.now.box) (clause_of pos.now neg.now) }
+    requires { ClauseInLimits (length store.now.box) (clause_of pos.now neg.now) }
     ensures finds { Finds store.now.box (clause_of pos.now neg.now) result }
-    ensures sound { IsBox store.now.box }
+    ensures well_formed { IsBox store.now.box }
 {
-    let _count = store.count();
+    recall_domains(store);
     match open_terms(store, pos) {
         Open::None => match open_terms(store, neg) {
             Open::None => Literals::None,
@@ -108,12 +108,12 @@ fn open_literals(store: &Store, pos: &[Term], neg: &[Term]) -> Literals
 }
 
 /// Looks for a true literal, where none is open.
-#[tactic(auto, using(crate::proofs::Clauses::true_says, crate::proofs::Clauses::closed_says))]
+#[tactic(auto, using(crate::proofs::Clauses::true_left, crate::proofs::Clauses::closed_left))]
 fn pass_closed(store: &Store, pos: &[Term], neg: &[Term]) -> Passed
-    requires sound { IsBox store.now.box }
-    requires kept { ClauseKept (length store.now.box) (clause_of pos.now neg.now) }
+    requires well_formed { IsBox store.now.box }
+    requires kept { ClauseInLimits (length store.now.box) (clause_of pos.now neg.now) }
     requires closed { Finds store.now.box (clause_of pos.now neg.now) Literals.None }
-    ensures { Concluded (clause_con (clause_of pos.now neg.now)) store.now.box store.now.box result }
+    ensures { Step (ConIsOwed (clause_con (clause_of pos.now neg.now))) (Holds (clause_con (clause_of pos.now neg.now))) store.now store.now result }
 {
     if has_true(store, pos, neg) {
         return Passed::Done;
@@ -122,26 +122,24 @@ fn pass_closed(store: &Store, pos: &[Term], neg: &[Term]) -> Passed
 }
 
 /// Makes the only open literal true, where no literal is.
-#[tactic(auto, using(crate::proofs::Clauses::true_says, crate::proofs::Clauses::last_runs, dom_store::specs::Laws::runs_refl))]
+#[tactic(auto, using(crate::proofs::Clauses::true_left))]
 fn pass_last(store: &mut Store, pos: &[Term], neg: &[Term], term: Term, value: i64) -> Passed
-    requires sound { IsBox store.old.box }
-    requires kept { ClauseKept (length store.old.box) (clause_of pos.now neg.now) }
+    requires well_formed { IsBox store.old.box }
+    requires kept { ClauseInLimits (length store.old.box) (clause_of pos.now neg.now) }
     requires last { IsLast store.old.box (clause_of pos.now neg.now) term value }
-    ensures runs { Runs (clause_con (clause_of pos.now neg.now)) store.old store.new }
-    ensures says { Concluded (clause_con (clause_of pos.now neg.now)) store.old.box store.new.box result }
+    ensures { Step (ConIsOwed (clause_con (clause_of pos.now neg.now))) (Holds (clause_con (clause_of pos.now neg.now))) store.old store.new result }
 {
     if has_true(store, pos, neg) {
         return Passed::Done;
     }
-    passed(settle(store, term, value))
+    fix(store, term, &value)
 }
 
 /// One pass over a clause: where no literal is true and one place alone has an open one, makes that true.
-#[tactic(auto, using(crate::proofs::Clauses::more_says, crate::proofs::Clauses::last_found, dom_store::specs::Laws::runs_refl))]
+#[tactic(auto, using(crate::proofs::Clauses::more_left, crate::proofs::Clauses::last_found))]
 pub(crate) fn pass_clause(store: &mut Store, pos: &[Term], neg: &[Term]) -> Passed
-    requires { ClauseKept (length store.old.box) (clause_of pos.now neg.now) }
-    ensures runs { Runs (clause_con (clause_of pos.now neg.now)) store.old store.new }
-    ensures says { Concluded (clause_con (clause_of pos.now neg.now)) store.old.box store.new.box result }
+    requires { ClauseInLimits (length store.old.box) (clause_of pos.now neg.now) }
+    ensures { Step (ConIsOwed (clause_con (clause_of pos.now neg.now))) (Holds (clause_con (clause_of pos.now neg.now))) store.old store.new result }
 {
     match open_literals(store, pos, neg) {
         Literals::None => pass_closed(store, pos, neg),

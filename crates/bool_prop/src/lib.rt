@@ -14,15 +14,12 @@
 //! What it stands on: dom_store for stores and passes in a row, fzn_model for constraints.
 #![tactic(auto)]
 
-// What a step answers.
-mod steps;
-
 // One pass over each kind.
 mod clause;
 mod member;
-mod places;
+mod neighbours;
 
 // The propagator of both, with constraints of its own.
-mod prop;
+mod clause_prop;
 
-pub use prop::ClauseProp;
+pub use clause_prop::ClauseProp;

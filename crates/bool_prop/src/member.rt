@@ -1,74 +1,72 @@
-ghost use Rattle.std.specs.Prelude.{◌≡◌, ◌≤◌, ◌≤ℤ◌, ◌<◌, length};
+ghost use Rattle.std.specs.Prelude.{length};
 ghost use Rattle.fzn_model.specs.Sets.{AreRuns};
 ghost use Rattle.fzn_model.specs.Boxes.{IsBox};
-ghost use Rattle.fzn_model.specs.Kept.{TermIn};
-ghost use Rattle.dom_store.specs.Propagation.{Runs};
+ghost use Rattle.fzn_model.specs.Limits.{TermIn};
+ghost use Rattle.fzn_model.specs.Meaning.{Holds};
+ghost use Rattle.dom_store.specs.Steps.{Step};
 ghost use Rattle.bool_prop.specs.Parts.{member_of, member_con};
-ghost use Rattle.bool_prop.specs.Steps.{Concluded, Shows, LowIsIn, HighIsIn, ValueIsIn, ValuesAreIn, EachIsIn};
+ghost use Rattle.bool_prop.specs.Inside.{LowIsIn, HighIsIn, ValueIsIn, ValuesAreIn, EachIsIn};
+ghost use Rattle.bool_prop.specs.Owing.{ConIsOwed};
 
-use crate::places::{is_in, next_in, previous_in};
-use crate::steps::passed;
-use dom_store::{Passed, Store, avoid, can_have, cap, greatest, least, raise};
-use fzn_model::Term;
+use crate::neighbours::{next_in, previous_in};
+use dom_store::{Passed, Store, can_have, cut_above, cut_below, drop_value, greatest, least};
+use fzn_model::{Runs, Term};
 
 /// How many numbers the hull of a variable with a bitmap has at most.
 const NARROW: i64 = 1024;
 
-/// Raises the least value of a term to the next number of the set.
-#[tactic(auto, using(crate::proofs::Members::none_from_low, dom_store::specs::Laws::runs_refl))]
-fn raise_into(store: &mut Store, x: Term, set: &[(i64, i64)]) -> Passed
+/// Cuts a term below the number of the set that is next to its least value.
+#[tactic(auto, using(crate::proofs::Members::none_from_low))]
+fn cut_below_next(store: &mut Store, x: Term, set: &Runs) -> Passed
     requires term { TermIn (length store.old.box) x }
     requires set { AreRuns set.now }
-    ensures runs { Runs (member_con (member_of x set.now)) store.old store.new }
-    ensures sound { IsBox store.old.box }
-    ensures says { Shows (LowIsIn (member_of x set.now)) (member_con (member_of x set.now)) store.old.box store.new.box result }
+    ensures { Step (LowIsIn (member_of x set.now)) (Holds (member_con (member_of x set.now))) store.old store.new result }
 {
     let low = least(store, x);
-    match next_in(set, low) {
-        Some(number) => passed(raise(store, x, number)),
+    match next_in(set, &low) {
+        Some(number) => cut_below(store, x, &number),
         None => Passed::Empty,
     }
 }
 
-/// Lowers the greatest value of a term to the number of the set before it.
-#[tactic(auto, using(crate::proofs::Members::none_to_high, dom_store::specs::Laws::runs_refl))]
-fn cap_into(store: &mut Store, x: Term, set: &[(i64, i64)]) -> Passed
+/// Cuts a term above the number of the set that is next to its greatest value.
+#[tactic(auto, using(crate::proofs::Members::none_to_high))]
+fn cut_above_previous(store: &mut Store, x: Term, set: &Runs) -> Passed
     requires term { TermIn (length store.old.box) x }
     requires set { AreRuns set.now }
-    ensures runs { Runs (member_con (member_of x set.now)) store.old store.new }
-    ensures says { Shows (HighIsIn (member_of x set.now)) (member_con (member_of x set.now)) store.old.box store.new.box result }
+    ensures { Step (HighIsIn (member_of x set.now)) (Holds (member_con (member_of x set.now))) store.old store.new result }
 {
     let high = greatest(store, x);
     match previous_in(set, high) {
-        Some(number) => passed(cap(store, x, number)),
+        Some(number) => cut_above(store, x, &number),
         None => Passed::Empty,
     }
 }
 
 /// Drops a value that is not in the set.
-#[tactic(auto, using(crate::proofs::Members::gone_shows, crate::proofs::Members::in_shows, dom_store::specs::Laws::runs_refl))]
-fn drop_one(store: &mut Store, x: Term, set: &[(i64, i64)], value: i64) -> Passed
+fn drop_outside(store: &mut Store, x: Term, set: &Runs, value: i64) -> Passed
     requires term { TermIn (length store.old.box) x }
     requires set { AreRuns set.now }
-    ensures runs { Runs (member_con (member_of x set.now)) store.old store.new }
-    ensures says { Shows (ValueIsIn (member_of x set.now) value) (member_con (member_of x set.now)) store.old.box store.new.box result }
+    ensures { Step (ValueIsIn (member_of x set.now) value) (Holds (member_con (member_of x set.now))) store.old store.new result }
 {
-    if !can_have(store, x, value) || is_in(set, value) {
+    if !can_have(store, x, value) {
         return Passed::Done;
     }
-    passed(avoid(store, x, value))
+    if set.contains(value) {
+        return Passed::Done;
+    }
+    drop_value(store, x, &value)
 }
 
 /// Drops each value from `low` to below `end` that is not in the set.
-#[tactic(auto, using(crate::proofs::Members::from_start, crate::proofs::Stepping::still_in, crate::proofs::Stepping::shows_none, dom_store::specs::Laws::runs_refl, dom_store::specs::Laws::runs_trans))]
-fn drop_from(store: &mut Store, x: Term, set: &[(i64, i64)], low: i64, end: i64) -> Passed
+fn drop_from(store: &mut Store, x: Term, set: &Runs, low: i64, end: i64) -> Passed
     requires term { TermIn (length store.old.box) x }
+    requires well_formed { IsBox store.old.box }
     requires set { AreRuns set.now }
-    ensures runs { Runs (member_con (member_of x set.now)) store.old store.new }
-    ensures says { Shows (ValuesAreIn (member_of x set.now) low end) (member_con (member_of x set.now)) store.old.box store.new.box result }
+    ensures { Step (ValuesAreIn (member_of x set.now) low end) (Holds (member_con (member_of x set.now))) store.old store.new result }
 {
     for value in low..end {
-        match drop_one(store, x, set, value) {
+        match drop_outside(store, x, set, value) {
             Passed::Empty => return Passed::Empty,
             Passed::Done => {}
         }
@@ -77,12 +75,10 @@ fn drop_from(store: &mut Store, x: Term, set: &[(i64, i64)], low: i64, end: i64)
 }
 
 /// Drops each value of a term that is not in the set, unless the term is a variable without a bitmap.
-#[tactic(auto, using(dom_store::specs::Laws::runs_refl))]
-fn drop_each(store: &mut Store, x: Term, set: &[(i64, i64)]) -> Passed
+fn drop_each(store: &mut Store, x: Term, set: &Runs) -> Passed
     requires term { TermIn (length store.old.box) x }
     requires set { AreRuns set.now }
-    ensures runs { Runs (member_con (member_of x set.now)) store.old store.new }
-    ensures says { Shows (EachIsIn (member_of x set.now)) (member_con (member_of x set.now)) store.old.box store.new.box result }
+    ensures { Step (EachIsIn (member_of x set.now)) (Holds (member_con (member_of x set.now))) store.old store.new result }
 {
     let low = least(store, x);
     let high = greatest(store, x);
@@ -93,18 +89,16 @@ fn drop_each(store: &mut Store, x: Term, set: &[(i64, i64)]) -> Passed
 }
 
 /// One pass over a term that lies in a set: its bounds, and each of its values where it has a bitmap.
-#[tactic(auto, using(crate::proofs::Members::member_says, crate::proofs::Members::empty_says, crate::proofs::Members::empty_later, crate::proofs::Stepping::still_in, dom_store::specs::Laws::runs_trans))]
-pub(crate) fn pass_member(store: &mut Store, x: Term, set: &[(i64, i64)]) -> Passed
+pub(crate) fn pass_member(store: &mut Store, x: Term, set: &Runs) -> Passed
     requires term { TermIn (length store.old.box) x }
     requires set { AreRuns set.now }
-    ensures runs { Runs (member_con (member_of x set.now)) store.old store.new }
-    ensures says { Concluded (member_con (member_of x set.now)) store.old.box store.new.box result }
+    ensures { Step (ConIsOwed (member_con (member_of x set.now))) (Holds (member_con (member_of x set.now))) store.old store.new result }
 {
-    match raise_into(store, x, set) {
+    match cut_below_next(store, x, set) {
         Passed::Empty => return Passed::Empty,
         Passed::Done => {}
     }
-    match cap_into(store, x, set) {
+    match cut_above_previous(store, x, set) {
         Passed::Empty => return Passed::Empty,
         Passed::Done => {}
     }

@@ -6,10 +6,11 @@ use Rattle.std.specs.Io.KnownBytes.{Consumes, IsAtEnd}
 use Rattle.std.proofs.lemmas.Bool.Decides.{nat_tests}
 use Rattle.std.proofs.lemmas.List.{take_all, drop_all}
 use denote.Ref.{Bor}
-use Rattle.fzn_parser.specs.declared.refused.Refused.{Refused}
-use Rattle.fzn_parser.specs.Reading.{reads, too_long}
+use Rattle.fzn_reader.specs.declared.refused.Refused.{Refused}
+use Rattle.fzn_reader.specs.Reading.{reads, too_long}
 use Rattle.cachesolve_cli.specs.declared.ending.Ending.TheVariants as ending
-use Rattle.cachesolve_cli.specs.Ways.{token_of, IsAll, EndsOver}
+use Rattle.cachesolve_cli.specs.Ways.{token_of, EndsOver}
+use Rattle.cachesolve_cli.specs.Stages.{IsAll}
 
 pub all_taken : (left new : Option (List ℕ)) (bytes : List ℕ) → Consumes left new bytes → IsAtEnd new → IsAll left bytes
 all_taken None new bytes p q = tt

@@ -5,13 +5,14 @@ use Rattle.std.proofs.lemmas.Int.{ints}
 use Rattle.std.proofs.lemmas.List.{get_or_default}
 use Rattle.fzn_model.specs.Parts.{Parts}
 use Rattle.fzn_model.specs.Sets.{IsIn, IsWithin}
-use Rattle.fzn_model.specs.Solutions.{Solves, InDomains, solves_length}
-use Rattle.fzn_model.specs.Kept.{IsModel, IsNear, IsValue, DomainKept}
+use Rattle.fzn_model.proofs.Solutions.{solves_length}
+use Rattle.fzn_model.specs.Solutions.{Solves, InDomains}
+use Rattle.fzn_model.specs.Limits.{IsModel, IsNear, IsValue, DomainInLimits}
 
 between : (low z high : ℤ) → IsValue low → IsValue high → low ≤ℤ z → z ≤ℤ high → IsNear z
 between low z high l h p q = omega (arith, ints)
 
-in_domain : (d : List (ℤ × ℤ)) (z : ℤ) → DomainKept d → IsIn d z → IsNear z
+in_domain : (d : List (ℤ × ℤ)) (z : ℤ) → DomainInLimits d → IsIn d z → IsNear z
 unfolding IsIn IsWithin
 in_domain d z k (i, run, h, is, w) =
     let bounds = subst (λ (r : ℤ × ℤ). IsValue r.0 × IsValue r.1) is (k.values i run h) in

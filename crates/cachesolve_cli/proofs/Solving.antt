@@ -7,7 +7,8 @@ use Rattle.std.proofs.lemmas.List.{take_more, get_or_default}
 use Rattle.std.proofs.Math.Seq.{take-length, take-append_seam}
 use Rattle.fzn_model.specs.Parts.{Parts}
 use Rattle.fzn_model.specs.Sets.{IsWithin, IsIn}
-use Rattle.fzn_model.specs.Solutions.{Solves, InDomains, solves_length}
+use Rattle.fzn_model.proofs.Solutions.{solves_length}
+use Rattle.fzn_model.specs.Solutions.{Solves, InDomains}
 use Rattle.fzn_model.specs.declared.goal.Goal.TheVariants as goal
 use Rattle.cachesolve_cli.specs.Covering.{AtMost, IsSound, KeepsBest, Suffices, Covers, CoversRun}
 use Rattle.incumbent_board.specs.Right.{IsBest}

@@ -4,8 +4,8 @@ use Rattle.std.specs.declared.option.Option.{Option}
 use Rattle.std.specs.Io.KnownBytes.{Appends}
 use Rattle.cs_base.specs.Causes.{Rose, AppendsFront}
 use Rattle.fzn_model.specs.Parts.{Parts}
-use Rattle.fzn_parser.specs.declared.refused.Refused.{Refused}
-use Rattle.fzn_parser.specs.Reading.{reads}
+use Rattle.fzn_reader.specs.declared.refused.Refused.{Refused}
+use Rattle.fzn_reader.specs.Reading.{reads}
 use Rattle.incumbent_board.specs.Right.{Right, IsDecided}
 use Rattle.incumbent_board.specs.declared.answer.Answer.{Answer}
 use Rattle.solution_out.specs.Shows.{shows}
@@ -17,10 +17,24 @@ abbrev pub ReadsAs : Option (List ℕ) → Parts → Type 0
 ReadsAs None m = ⊤
 ReadsAs (Some bytes) m = reads bytes ≡ Ok m
 
--- the bytes are refused, where the source tells them
-abbrev pub IsRefused : Option (List ℕ) → Type 0
-IsRefused None = ⊤
-IsRefused (Some bytes) = (r : Refused) × (reads bytes ≡ Err r)
+-- the source tells the bytes that it had left, and they are a model
+abbrev pub IsModelFile : Option (List ℕ) → Type 0
+IsModelFile None = ⊥
+IsModelFile (Some bytes) = (m : Parts) × (reads bytes ≡ Ok m)
+
+-- the source tells the bytes that it had left, and they are refused
+abbrev pub IsRefusedFile : Option (List ℕ) → Type 0
+IsRefusedFile None = ⊥
+IsRefusedFile (Some bytes) = (r : Refused) × (reads bytes ≡ Err r)
+
+-- The status of a run over a model: 0, or 4 for want of memory, or 6 or 7 where the source's count of faults or that of
+-- the output rose, each given by what it was before and what it is now.
+abbrev pub IsModelStatus : ℕ → ℕ → ℕ → ℕ → ℕ → Type 0
+IsModelStatus read_before read_now write_before write_now status = (status ≡ 0) ⊎ (status ≡ 4) ⊎ ((status ≡ 6) × Rose read_before read_now) ⊎ ((status ≡ 7) × Rose write_before write_now)
+
+-- The status of a run over a file that is refused: 5, or 4 for want of memory, or 6 where the source's count of faults rose.
+abbrev pub IsRefusalStatus : ℕ → ℕ → ℕ → Type 0
+IsRefusalStatus read_before read_now status = (status ≡ 5) ⊎ (status ≡ 4) ⊎ ((status ≡ 6) × Rose read_before read_now)
 
 -- an answer that is right for the model that was read, and that says what listing all assignments would say
 abbrev pub Decides : Option (List ℕ) → Parts → Answer → Type 0

@@ -1,3 +1,5 @@
 pub mod Covering
 pub mod Ways
 pub mod Headline
+pub mod Stages
+pub mod Words

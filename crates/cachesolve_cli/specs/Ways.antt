@@ -1,10 +1,10 @@
 -- The ways in which a run ends: each with its status and its message on the error output. All of it is this project's own.
-use Rattle.std.specs.Prelude.{◌≡◌, ℕ, ◌-◌, List, [], codes, Some, None, Err, ⊤, take, drop}
+use Rattle.std.specs.Prelude.{◌≡◌, ℕ, ◌-◌, List, [], codes, Some, Err, ⊤, take, drop}
 use Rattle.std.specs.declared.option.Option.{Option}
-use Rattle.fzn_parser.specs.declared.code.Code.{Code}
-use Rattle.fzn_parser.specs.declared.code.Code.TheVariants as code
-use Rattle.fzn_parser.specs.declared.refused.Refused.{Refused}
-use Rattle.fzn_parser.specs.Reading.{reads}
+use Rattle.fzn_reader.specs.declared.code.Code.{Code}
+use Rattle.fzn_reader.specs.declared.code.Code.TheVariants as code
+use Rattle.fzn_reader.specs.declared.refused.Refused.{Refused}
+use Rattle.fzn_reader.specs.Reading.{reads}
 use Rattle.solution_out.specs.Refusals.{refusal_text}
 use Rattle.cachesolve_cli.specs.declared.ending.Ending.{Ending}
 use Rattle.cachesolve_cli.specs.declared.ending.Ending.TheVariants as ending
@@ -57,21 +57,3 @@ pub record IsRefusalOf (bytes : List ℕ) (r : Refused) (token : List ℕ) : Typ
 abbrev pub EndsOver : Option (List ℕ) → Ending → Type 0
 EndsOver (Some bytes) (ending.Refused r token) = IsRefusalOf bytes r token.now
 EndsOver left e = ⊤
-
--- the bytes are all that a source had left, where it tells them
-abbrev pub IsAll : Option (List ℕ) → List ℕ → Type 0
-IsAll None bytes = ⊤
-IsAll (Some xs) bytes = xs ≡ bytes
-
--- a way to end while reading
-abbrev pub IsUnread : Ending → Type 0
-IsUnread ending.NoMemory = ⊤
-IsUnread (ending.Refused r token) = ⊤
-IsUnread ending.ReadFailed = ⊤
-IsUnread e = ⊥
-
--- a way to end once all is read
-abbrev pub IsRead : Ending → Type 0
-IsRead ending.WrongWords = ⊥
-IsRead ending.ReadFailed = ⊥
-IsRead e = ⊤

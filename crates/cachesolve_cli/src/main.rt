@@ -4,12 +4,16 @@
 //! user stands. It solves by trying each assignment.
 //!
 //! What it promises: a run that ends with status 0 has written exactly the text of a right answer for the model of its
-//! input, and each other status has its cause and its message. `specs/Headline.antt` has the words of these promises, and
-//! `specs/Ways.antt` the statuses.
+//! input, each other status has its cause and its message, and a model is decided where memory and the calls of the system
+//! allow. `specs/Headline.antt` has the words of these promises, `specs/Ways.antt` the statuses and messages of a run, and
+//! `specs/Words.antt` those where the program's words can't be had.
 //!
-//! What it stands on: cs_base, fzn_model, fzn_parser, incumbent_board, solution_out. That `main` hands the real words, input and
-//! outputs to `run` is trusted.
+//! What it stands on: cs_base, fzn_model, fzn_parser, incumbent_board, solution_out. That `main` asks the system for the words, and
+//! hands them with the real input and outputs to `run`, is trusted; what it makes of them is proved.
 #![tactic(auto)]
+
+ghost use Rattle.std.specs.Prelude.{◌≡◌};
+ghost use Rattle.std.specs.Process.{exit_status};
 
 // From a model to an answer.
 mod search;
@@ -17,56 +21,40 @@ mod search;
 // The whole run.
 mod ending;
 mod running;
+
+// The words that the system has for the program.
+mod program_words;
 #[cfg(test)]
 mod tests;
 
-use cs_base::{StdSink, StdSource, Words, write_whole};
+use cs_base::{Status, StdSink, StdSource, Words};
+use program_words::{WordsFault, behind_name, cause_of, end_without};
 use std::process::ExitCode;
 use std::{env, io};
 
-/// Why the program's words can't be had from the system: status 4 for want of memory, 9 for every other cause.
-#[derive(Clone, Copy, Debug, PartialEq, Eq)]
-enum WordsFault {
-    NoMemory,
-    NotText,
-}
-
 /// The program's words without its name.
 fn words_of(rt: &HostRuntime) -> Result<Words, WordsFault> {
-    let all = match env::args(rt) {
-        Ok(all) => all,
-        Err(error) => {
-            return Err(if error.kind() == io::ErrorKind::OutOfMemory {
-                WordsFault::NoMemory
-            } else {
-                WordsFault::NotText
-            });
-        }
-    };
-    let mut words = Vec::new(rt.alloc());
-    for word in all.skip(1) {
-        if words.push(word).is_err() {
-            return Err(WordsFault::NoMemory);
-        }
+    match env::args(rt) {
+        Ok(all) => behind_name(rt.alloc(), all),
+        Err(error) => Err(cause_of(&error)),
     }
-    Ok(Words::new(words))
+}
+
+/// The exit status with the number of the status.
+fn exit_code(status: Status) -> ExitCode
+    ensures { exit_status result ≡ status.code }
+{
+    ExitCode::from(status.code)
 }
 
 fn main(rt: HostRuntime) -> ExitCode {
     let mut err = StdSink::new(rt.stderr());
     let words = match words_of(&rt) {
         Ok(words) => words,
-        Err(WordsFault::NoMemory) => {
-            let _ = write_whole(&mut err, b"cachesolve: out of memory\n");
-            return ExitCode::from(4);
-        }
-        Err(WordsFault::NotText) => {
-            let _ = write_whole(&mut err, b"cachesolve: the words are no text\n");
-            return ExitCode::from(9);
-        }
+        Err(fault) => return exit_code(end_without(fault, &mut err)),
     };
     let mut source = StdSource::new(&rt);
     let mut out = StdSink::new(io::writer(&rt));
     let status = running::run(&rt, rt.alloc(), &words, &mut source, &mut out, &mut err);
-    ExitCode::from(status.code)
+    exit_code(status)
 }

@@ -1,8 +1,9 @@
 ghost use Rattle.std.specs.Prelude.{◌≡◌, ◌⊎◌, ◌↔◌, [], IfOk, IfErr, Err, Some, take, drop};
 ghost use Rattle.std.specs.Io.KnownBytes.{Appends, Keeps};
 ghost use Rattle.cs_base.specs.Causes.{Rose, AppendsFront};
-ghost use Rattle.cachesolve_cli.specs.Headline.{IsRefused, IsDecidedRun, IsCutRun, IsTold};
-ghost use Rattle.cachesolve_cli.specs.Ways.{token_of, status_of, message_of, EndsOver, IsAll, IsUnread, IsRead};
+ghost use Rattle.cachesolve_cli.specs.Headline.{IsDecidedRun, IsCutRun, IsModelFile, IsModelStatus, IsRefusedFile, IsRefusalStatus, IsTold};
+ghost use Rattle.cachesolve_cli.specs.Ways.{token_of, status_of, message_of, EndsOver};
+ghost use Rattle.cachesolve_cli.specs.Stages.{IsAll, IsUnread, IsRead};
 ghost use Rattle.cachesolve_cli.specs.declared.ending.Ending.TheVariants as ending;
 
 use crate::ending::Ending;
@@ -110,7 +111,7 @@ fn finish<E: Sink>(end: &Ending, err: &mut E) -> Status
 /// One call of the program: reads a FlatZinc file from standard input, solves it, and writes the answer.
 ///
 /// The words are refused where there are any. Want of memory ends with status 4; no clause says when it comes.
-#[tactic(auto, using(crate::proofs::Endings::decided, crate::proofs::Endings::wrong_words, crate::proofs::Endings::refused, crate::proofs::Endings::read_failed, crate::proofs::Endings::write_failed, crate::proofs::Endings::decided_over, crate::proofs::Endings::cut_over, crate::proofs::Endings::ends_over))]
+#[tactic(auto, using(crate::proofs::Endings::decided, crate::proofs::Endings::wrong_words, crate::proofs::Endings::unread_model, crate::proofs::Endings::unread_refused, crate::proofs::Endings::read_model, crate::proofs::Endings::read_refused, crate::proofs::Endings::read_failed, crate::proofs::Endings::write_failed, crate::proofs::Endings::decided_over, crate::proofs::Endings::cut_over, crate::proofs::Endings::ends_over))]
 pub fn run<R: Threads + Sync, S: Source, O: Sink, E: Sink>(
     rt: &R,
     alloc: Global,
@@ -122,9 +123,12 @@ pub fn run<R: Threads + Sync, S: Source, O: Sink, E: Sink>(
     // The headline: a decided run writes exactly the text of a right answer for the model that it read.
     ensures decided { result.code ≡ 0 → IsDecidedRun (S.left source.old) (O.written out.old) (O.written out.new) }
 
-    // Status 2 exactly where there are words; 5 only where reading refuses the bytes.
+    // Status 2 exactly where there are words.
     ensures words { (result.code ≡ 2) ↔ (words.now ≡ [] → ⊥) }
-    ensures refused { result.code ≡ 5 → IsRefused (S.left source.old) }
+
+    // Without words a model is decided and any other file is refused, but for want of memory and where a count of faults rose.
+    ensures model { words.now ≡ [] → IsModelFile (S.left source.old) → IsModelStatus (S.faults source.old) (S.faults source.new) (O.faults out.old) (O.faults out.new) result.code }
+    ensures refused { words.now ≡ [] → IsRefusedFile (S.left source.old) → IsRefusalStatus (S.faults source.old) (S.faults source.new) result.code }
 
     // 6 and 7 only where that count of faults rose, and no other status where it did.
     ensures read { result.code ≡ 6 → Rose (S.faults source.old) (S.faults source.new) }

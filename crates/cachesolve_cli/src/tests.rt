@@ -47,119 +47,44 @@ const LEAST: &[u8] = b"var 1..3: x :: output_var; solve minimize x;";
 const LEAST_OUT: &[u8] = b"x = 1;\n----------\n==========\n";
 
 /// Files with what is written for them, at status 0.
+#[rattlefmt::skip]
 static ANSWERED: [(&[u8], &[u8]); 17] = [
-    (
-        b"var 1..3: x :: output_var; solve minimize x;",
-        b"x = 1;\n----------\n==========\n",
-    ),
-    (
-        b"var 1..3: x :: output_var; constraint int_lin_le([1],[x],0); solve minimize x;",
-        b"=====UNSATISFIABLE=====\n",
-    ),
-    (
-        b"var 3..1: x :: output_var; solve minimize x;",
-        b"=====UNSATISFIABLE=====\n",
-    ),
+    (b"var 1..3: x :: output_var; solve minimize x;", b"x = 1;\n----------\n==========\n"),
+    (b"var 1..3: x :: output_var; constraint int_lin_le([1],[x],0); solve minimize x;", b"=====UNSATISFIABLE=====\n"),
+    (b"var 3..1: x :: output_var; solve minimize x;", b"=====UNSATISFIABLE=====\n"),
     (b"solve satisfy;", b"----------\n"),
-    (
-        b"var 0..1: x1 :: output_var;\nvar 0..1: x2 :: output_var;\nvar 0..1: x3 :: output_var;\nvar 0..1: x4 :: output_var;\nvar 0..18: z :: output_var;\nconstraint int_lin_le([2,3,4,5],[x1,x2,x3,x4],5);\nconstraint int_lin_eq([3,4,5,6,-1],[x1,x2,x3,x4,z],0);\nsolve maximize z;\n",
-        b"x1 = 1;\nx2 = 1;\nx3 = 0;\nx4 = 0;\nz = 7;\n----------\n==========\n",
-    ),
-    (
-        b"var 1..2: a; var 1..2: b; var 1..2: c; constraint fzn_all_different_int([a,b,c]); solve satisfy;",
-        b"=====UNSATISFIABLE=====\n",
-    ),
-    (
-        b"var 0..4: i :: output_var; var 0..10: c :: output_var; constraint array_int_element(i,[5,7,9],c); solve maximize c;",
-        b"i = 3;\nc = 9;\n----------\n==========\n",
-    ),
-    (
-        b"var -1..1: x :: output_var; var -10..10: y :: output_var; constraint int_div(6,x,y); solve minimize y;",
-        b"x = -1;\ny = -6;\n----------\n==========\n",
-    ),
-    (
-        b"var bool: a :: output_var; var bool: b :: output_var; constraint bool_clause([a],[b]); constraint bool_eq_reif(a,b,false); solve satisfy;",
-        b"a = true;\nb = false;\n----------\n",
-    ),
+    (b"var 0..1: x1 :: output_var;\nvar 0..1: x2 :: output_var;\nvar 0..1: x3 :: output_var;\nvar 0..1: x4 :: output_var;\nvar 0..18: z :: output_var;\nconstraint int_lin_le([2,3,4,5],[x1,x2,x3,x4],5);\nconstraint int_lin_eq([3,4,5,6,-1],[x1,x2,x3,x4,z],0);\nsolve maximize z;\n", b"x1 = 1;\nx2 = 1;\nx3 = 0;\nx4 = 0;\nz = 7;\n----------\n==========\n"),
+    (b"var 1..2: a; var 1..2: b; var 1..2: c; constraint fzn_all_different_int([a,b,c]); solve satisfy;", b"=====UNSATISFIABLE=====\n"),
+    (b"var 0..4: i :: output_var; var 0..10: c :: output_var; constraint array_int_element(i,[5,7,9],c); solve maximize c;", b"i = 3;\nc = 9;\n----------\n==========\n"),
+    (b"var -1..1: x :: output_var; var -10..10: y :: output_var; constraint int_div(6,x,y); solve minimize y;", b"x = -1;\ny = -6;\n----------\n==========\n"),
+    (b"var bool: a :: output_var; var bool: b :: output_var; constraint bool_clause([a],[b]); constraint bool_eq_reif(a,b,false); solve satisfy;", b"a = true;\nb = false;\n----------\n"),
     (b"var 1..2: x :: foo(0.5); solve satisfy;", b"----------\n"),
-    (
-        b"var int: x :: output_var; constraint int_le(x,5); solve maximize x;",
-        b"x = 5;\n----------\n==========\n",
-    ),
-    (
-        b"var int: x :: output_var; solve maximize x;",
-        b"x = 1000000;\n----------\n==========\n",
-    ),
-    (
-        b"var 0x10..0o20: x :: output_var; solve satisfy;",
-        b"x = 16;\n----------\n",
-    ),
+    (b"var int: x :: output_var; constraint int_le(x,5); solve maximize x;", b"x = 5;\n----------\n==========\n"),
+    (b"var int: x :: output_var; solve maximize x;", b"x = 1000000;\n----------\n==========\n"),
+    (b"var 0x10..0o20: x :: output_var; solve satisfy;", b"x = 16;\n----------\n"),
     (b"var {}: x; solve satisfy;", b"=====UNSATISFIABLE=====\n"),
-    (
-        b"var 1..1: a; var 2..2: b; array [1..4] of var int: m :: output_array([1..2,1..2]) = [a,b,3,4]; solve satisfy;",
-        b"m = array2d(1..2, 1..2, [1, 2, 3, 4]);\n----------\n",
-    ),
+    (b"var 1..1: a; var 2..2: b; array [1..4] of var int: m :: output_array([1..2,1..2]) = [a,b,3,4]; solve satisfy;", b"m = array2d(1..2, 1..2, [1, 2, 3, 4]);\n----------\n"),
     (b"solve minimize 7;", b"----------\n==========\n"),
-    (
-        b"predicate fzn_cumulative(array [int] of var int: s,array [int] of var int: d,array [int] of var int: r,var int: b);\narray [1..4] of int: X_INTRODUCED_4_ = [3,2,2,1];\narray [1..4] of int: X_INTRODUCED_5_ = [1,1,2,1];\narray [1..2] of int: X_INTRODUCED_7_ = [1,-1];\nvar 0..8: X_INTRODUCED_0_;\nvar 0..8: X_INTRODUCED_1_;\nvar 0..8: X_INTRODUCED_2_;\nvar 0..8: X_INTRODUCED_3_;\nvar 0..8: makespan:: output_var;\nvar 2..10: X_INTRODUCED_6_:: var_is_introduced :: is_defined_var;\narray [1..4] of var int: s:: output_array([1..4]) = [X_INTRODUCED_0_,X_INTRODUCED_1_,X_INTRODUCED_2_,X_INTRODUCED_3_];\nconstraint fzn_cumulative(s,X_INTRODUCED_4_,X_INTRODUCED_5_,2);\nconstraint int_lin_eq(X_INTRODUCED_7_,[X_INTRODUCED_2_,X_INTRODUCED_6_],-2):: defines_var(X_INTRODUCED_6_);\nconstraint int_le(X_INTRODUCED_6_,makespan);\nconstraint int_lin_le(X_INTRODUCED_7_,[X_INTRODUCED_0_,makespan],-3);\nconstraint int_lin_le(X_INTRODUCED_7_,[X_INTRODUCED_1_,makespan],-2);\nconstraint int_lin_le(X_INTRODUCED_7_,[X_INTRODUCED_3_,makespan],-1);\nconstraint int_lin_le(X_INTRODUCED_7_,[X_INTRODUCED_0_,X_INTRODUCED_2_],-3);\nconstraint int_lin_le(X_INTRODUCED_7_,[X_INTRODUCED_1_,X_INTRODUCED_3_],-2);\nsolve :: int_search(s,first_fail,indomain_min,complete) minimize makespan;\n",
-        b"makespan = 5;\ns = array1d(1..4, [0, 0, 3, 2]);\n----------\n==========\n",
-    ),
+    (b"predicate fzn_cumulative(array [int] of var int: s,array [int] of var int: d,array [int] of var int: r,var int: b);\narray [1..4] of int: X_INTRODUCED_4_ = [3,2,2,1];\narray [1..4] of int: X_INTRODUCED_5_ = [1,1,2,1];\narray [1..2] of int: X_INTRODUCED_7_ = [1,-1];\nvar 0..8: X_INTRODUCED_0_;\nvar 0..8: X_INTRODUCED_1_;\nvar 0..8: X_INTRODUCED_2_;\nvar 0..8: X_INTRODUCED_3_;\nvar 0..8: makespan:: output_var;\nvar 2..10: X_INTRODUCED_6_:: var_is_introduced :: is_defined_var;\narray [1..4] of var int: s:: output_array([1..4]) = [X_INTRODUCED_0_,X_INTRODUCED_1_,X_INTRODUCED_2_,X_INTRODUCED_3_];\nconstraint fzn_cumulative(s,X_INTRODUCED_4_,X_INTRODUCED_5_,2);\nconstraint int_lin_eq(X_INTRODUCED_7_,[X_INTRODUCED_2_,X_INTRODUCED_6_],-2):: defines_var(X_INTRODUCED_6_);\nconstraint int_le(X_INTRODUCED_6_,makespan);\nconstraint int_lin_le(X_INTRODUCED_7_,[X_INTRODUCED_0_,makespan],-3);\nconstraint int_lin_le(X_INTRODUCED_7_,[X_INTRODUCED_1_,makespan],-2);\nconstraint int_lin_le(X_INTRODUCED_7_,[X_INTRODUCED_3_,makespan],-1);\nconstraint int_lin_le(X_INTRODUCED_7_,[X_INTRODUCED_0_,X_INTRODUCED_2_],-3);\nconstraint int_lin_le(X_INTRODUCED_7_,[X_INTRODUCED_1_,X_INTRODUCED_3_],-2);\nsolve :: int_search(s,first_fail,indomain_min,complete) minimize makespan;\n", b"makespan = 5;\ns = array1d(1..4, [0, 0, 3, 2]);\n----------\n==========\n"),
 ];
 
 /// Files with what is said of them, at status 5.
-static REFUSED: [(&[u8], &[u8]); 16] = [
+#[rattlefmt::skip]
+static REFUSED: [(&[u8], &[u8]); 14] = [
     (b"var float: f;", b"cachesolve: line 1: float: float\n"),
-    (
-        b"var 1..3: x;\nconstraint int_lin_le([1,",
-        b"cachesolve: line 2: syntax: end of input\n",
-    ),
-    (
-        b"var 0..1000001: x; solve satisfy;",
-        b"cachesolve: line 1: out of range: 1000001\n",
-    ),
-    (
-        b"var 1..2: x;\nvar 1..2: x;",
-        b"cachesolve: line 2: declared twice: x\n",
-    ),
-    (
-        b"var 1..2: x;\nconstraint int_lin_le([1,2],[x],3);",
-        b"cachesolve: line 2: lengths: )\n",
-    ),
-    (
-        b"var 1..2: x;",
-        b"cachesolve: line 1: no solve: end of input\n",
-    ),
-    (
-        b"solve satisfy; solve satisfy;",
-        b"cachesolve: line 1: two solves: solve\n",
-    ),
-    (
-        b"constraint foo(1); solve satisfy;",
-        b"cachesolve: line 1: unknown constraint: foo\n",
-    ),
-    (
-        b"var 1..2: x; constraint set_in(x,{1}); var 1..1: x;",
-        b"cachesolve: line 1: declared twice: x\n",
-    ),
-    (
-        b"var set of int: s;",
-        b"cachesolve: line 1: set variable: set\n",
-    ),
-    (
-        b"constraint int_le(x,1);",
-        b"cachesolve: line 1: undeclared: x\n",
-    ),
-    (
-        b"constraint int_eq(1);",
-        b"cachesolve: line 1: wrong arguments: )\n",
-    ),
-    (b"solve satisfy :: 1;", b"cachesolve: line 1: syntax: ::\n"),
+    (b"var 1..3: x;\nconstraint int_lin_le([1,", b"cachesolve: line 2: syntax: end of input\n"),
+    (b"var 0..1000001: x; solve satisfy;", b"cachesolve: line 1: out of range: 1000001\n"),
+    (b"var 1..2: x;\nvar 1..2: x;", b"cachesolve: line 2: declared twice: x\n"),
+    (b"var 1..2: x;\nconstraint int_lin_le([1,2],[x],3);", b"cachesolve: line 2: lengths: )\n"),
+    (b"var 1..2: x;", b"cachesolve: line 1: no solve: end of input\n"),
+    (b"solve satisfy; solve satisfy;", b"cachesolve: line 1: two solves: solve\n"),
+    (b"constraint foo(1); solve satisfy;", b"cachesolve: line 1: unknown constraint: foo\n"),
+    (b"var 1..2: x; constraint set_in(x,{1}); var 1..1: x;", b"cachesolve: line 1: declared twice: x\n"),
+    (b"var set of int: s;", b"cachesolve: line 1: set variable: set\n"),
+    (b"constraint int_le(x,1);", b"cachesolve: line 1: undeclared: x\n"),
+    (b"constraint int_eq(1);", b"cachesolve: line 1: wrong arguments: )\n"),
     (b"\xff", b"cachesolve: line 1: syntax: \xff\n"),
-    (b"", b"cachesolve: line 1: no solve: end of input\n"),
-    (
-        b"var 1..2: an_identifier_that_is_longer_than_forty_bytes;\nvar 1..2: an_identifier_that_is_longer_than_forty_bytes;",
-        b"cachesolve: line 2: declared twice: an_identifier_that_is_longer_than_forty_\n",
-    ),
+    (b"var 0..1: x :: a([[[[[[[[[[[[[[[[[[[[[[[[[[[[[[[[[[[[[[[[[[[[[[[[[[[[[[[[[[[[[[[[", b"cachesolve: line 1: too deep: [\n"),
 ];
 
 #[test]
@@ -184,42 +109,19 @@ fn refusals_say_where_and_why(rt: HostRuntime) -> Result<(), Fail> {
     Ok(())
 }
 
-const SCHEDULE: &[u8] =
-    b"predicate fzn_cumulative(array [int] of var int: s,array [int] of var int: d,array [int] of var int: r,var int: b);\narray [1..4] of int: X_INTRODUCED_4_ = [3,2,2,1];\narray [1..4] of int: X_INTRODUCED_5_ = [1,1,2,1];\narray [1..2] of int: X_INTRODUCED_7_ = [1,-1];\nvar 0..8: X_INTRODUCED_0_;\nvar 0..8: X_INTRODUCED_1_;\nvar 0..8: X_INTRODUCED_2_;\nvar 0..8: X_INTRODUCED_3_;\nvar 0..8: makespan:: output_var;\nvar 2..10: X_INTRODUCED_6_:: var_is_introduced :: is_defined_var;\narray [1..4] of var int: s:: output_array([1..4]) = [X_INTRODUCED_0_,X_INTRODUCED_1_,X_INTRODUCED_2_,X_INTRODUCED_3_];\nconstraint fzn_cumulative(s,X_INTRODUCED_4_,X_INTRODUCED_5_,2);\nconstraint int_lin_eq(X_INTRODUCED_7_,[X_INTRODUCED_2_,X_INTRODUCED_6_],-2):: defines_var(X_INTRODUCED_6_);\nconstraint int_le(X_INTRODUCED_6_,makespan);\nconstraint int_lin_le(X_INTRODUCED_7_,[X_INTRODUCED_0_,makespan],-3);\nconstraint int_lin_le(X_INTRODUCED_7_,[X_INTRODUCED_1_,makespan],-2);\nconstraint int_lin_le(X_INTRODUCED_7_,[X_INTRODUCED_3_,makespan],-1);\nconstraint int_lin_le(X_INTRODUCED_7_,[X_INTRODUCED_0_,X_INTRODUCED_2_],-3);\nconstraint int_lin_le(X_INTRODUCED_7_,[X_INTRODUCED_1_,X_INTRODUCED_3_],-2);\nsolve :: int_search(s,first_fail,indomain_min,complete) minimize makespan;\n";
-
-/// Each part of a file that ends before its last `;` is refused.
+/// A source may have 67,108,864 bytes. One byte more is refused at its first line.
 #[test]
-fn cut_files_are_refused(rt: HostRuntime) -> Result<(), Fail> {
-    for length in 0..SCHEDULE.len() - 2 {
-        let run = run_on(&rt, rt.alloc(), &SCHEDULE[..length], 4096, 0, 0)?;
-        assert_eq!(rt; run.code, 5);
-    }
-    Ok(())
-}
-
-/// A variable with an annotation of so many brackets, and a search for any value.
-fn nested(alloc: Global, levels: usize) -> Result<Vec<u8>, AllocError> {
-    let mut text = Vec::from_slice(alloc, b"var 1..2: x :: a")?;
-    for _ in 0..levels {
-        text.extend_from_slice(b"(a")?;
-    }
-    for _ in 0..levels {
-        text.extend_from_slice(b")")?;
-    }
-    text.extend_from_slice(b"; solve satisfy;")?;
-    Ok(text)
-}
-
-#[test]
-fn annotations_have_64_levels(rt: HostRuntime) -> Result<(), Fail> {
-    let alloc = rt.alloc();
-    let run = run_on(&rt, alloc, nested(alloc, 64)?.as_slice(), 4096, 0, 0)?;
+fn sources_are_read_to_the_limit(rt: HostRuntime) -> Result<(), Fail> {
+    let mut text = Vec::from_slice(rt.alloc(), LEAST)?;
+    text.resize(67_108_864, b' ')?;
+    let run = run_on(&rt, rt.alloc(), text.as_slice(), 4096, 0, 0)?;
     assert_eq!(rt; run.code, 0);
-    let run = run_on(&rt, alloc, nested(alloc, 65)?.as_slice(), 4096, 0, 0)?;
+    text.push(b' ')?;
+    let run = run_on(&rt, rt.alloc(), text.as_slice(), 4096, 0, 0)?;
     assert_eq!(rt; run.code, 5);
     assert_eq!(rt;
         run.err.as_slice(),
-        b"cachesolve: line 1: too deep: (\n".as_slice()
+        b"cachesolve: line 1: too long: end of input\n".as_slice()
     );
     Ok(())
 }

@@ -8,7 +8,7 @@ use Rattle.cs_base.specs.declared.reading.ReadFault.{ReadFault}
 
 -- The bytes are all that were left, at most the limit; or the limit and one more were taken; or an error came after at
 -- most the limit.
-abbrev pub Takes : ℕ → Option (List ℕ) → Option (List ℕ) → Result Whole ReadFault → Type 0
-Takes limit old new (Ok (whole.Bytes v)) = Consumes old new v.items × IsAtEnd new × (length v.items ≤ limit)
-Takes limit old new (Ok whole.More) = (bytes : List ℕ) × Consumes old new bytes × (length bytes ≡ limit + 1)
-Takes limit old new (Err e) = (bytes : List ℕ) × Consumes old new bytes × (length bytes ≤ limit)
+abbrev pub IsReading : ℕ → Option (List ℕ) → Option (List ℕ) → Result Whole ReadFault → Type 0
+IsReading limit old new (Ok (whole.Bytes v)) = Consumes old new v.items × IsAtEnd new × (length v.items ≤ limit)
+IsReading limit old new (Ok whole.More) = (bytes : List ℕ) × Consumes old new bytes × (length bytes ≡ limit + 1)
+IsReading limit old new (Err e) = (bytes : List ℕ) × Consumes old new bytes × (length bytes ≤ limit)

@@ -5,12 +5,13 @@
 //!
 //! What contracts see: a source as the bytes that are left, where it tells them, and a count of faults; a sink as the
 //! bytes written, where it tells them, and a count of faults. A count never falls. `MemSource` and `MemSink` tell
-//! their bytes, and which of their calls fail is stated; `StdSource` and `StdSink` tell nothing but their counts.
+//! their bytes, and which of their calls fail is stated; `StdSource` tells nothing but its count, and `StdSink` the bytes
+//! that its writer tells.
 //!
 //! What it promises: a call answers `Failed` only where the count of that source or sink rose in the call, and then it
 //! took or appended nothing. [`read_all`] gives all bytes, and [`write_whole`] appends all of them or says that it didn't.
 //!
-//! What it stands on: nothing but std. That `StdSource` and `StdSink` pass on the real bytes is trusted.
+//! What it stands on: nothing but std. That `StdSource` passes on the real bytes is trusted.
 #![tactic(auto)]
 
 mod failed;

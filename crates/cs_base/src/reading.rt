@@ -1,6 +1,6 @@
 ghost use Rattle.std.specs.Prelude.{◌≡◌, ◌≤◌, Err};
 ghost use Rattle.cs_base.specs.Causes.{Rose};
-ghost use Rattle.cs_base.specs.Taken.{Takes};
+ghost use Rattle.cs_base.specs.Taken.{IsReading};
 ghost use Rattle.cs_base.specs.declared.reading.ReadFault.TheVariants as fault;
 
 use crate::failed::Failed;
@@ -30,7 +30,7 @@ pub enum ReadFault {
 /// taken. `Fault` comes only where the source's count of faults rose.
 #[tactic(auto, using(crate::proofs::Bytes::consumes_none, crate::proofs::Bytes::consumes_more, crate::proofs::Bytes::consumes_kept))]
 pub fn read_all<S: Source>(alloc: Global, source: &mut S, limit: usize) -> Result<Whole, ReadFault>
-    ensures taken { Takes limit (S.left source.old) (S.left source.new) result }
+    ensures taken { IsReading limit (S.left source.old) (S.left source.new) result }
     ensures later { S.faults source.old ≤ S.faults source.new }
     ensures fault { result ≡ Err fault.Fault → Rose (S.faults source.old) (S.faults source.new) }
     ensures kept { (result ≡ Err fault.Fault → ⊥) → S.faults source.new ≡ S.faults source.old }

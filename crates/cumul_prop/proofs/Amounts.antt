@@ -6,11 +6,11 @@ use Rattle.fzn_model.specs.declared.term.Term.{Term}
 use Rattle.fzn_model.specs.declared.cumulative.CumTask.{CumTask}
 use Rattle.fzn_model.specs.declared.cumulative.Used.{Used}
 use Rattle.fzn_model.specs.declared.con.Con.TheVariants as con
-use Rattle.fzn_model.specs.Kept.{TermIn}
+use Rattle.fzn_model.specs.Limits.{TermIn}
 use Rattle.fzn_model.specs.Meaning.{val, amount_at, usage, AreTasks, FitsAlways, Holds}
 use Rattle.fzn_model.specs.Boxes.{IsBox, InBox}
 use Rattle.fzn_model.specs.Bounds.{term_low, term_high}
-use Rattle.fzn_model.specs.Terms.{val_low, val_high}
+use Rattle.fzn_model.proofs.Terms.{val_low, val_high}
 use Rattle.fzn_model.proofs.Moments.{part, amount_append}
 use Rattle.dom_store.specs.Strength.{part_of, without, use_at}
 use Rattle.cumul_prop.specs.declared.fits.Place.{Place}
@@ -71,11 +71,11 @@ without_use box ks us j d t h =
 
 -- ---- an assignment of the box with the constraint
 part_below : (box : List (List ℤ)) (k : CumTask) (θ : List ℤ) (t : ℤ) → IsBox box → TermIn (length box) k.s × TermIn (length box) k.d × TermIn (length box) k.r → InBox box θ → pos 0 ≤ℤ val k.r θ → part (part_of box k) t ≤ℤ part (usage θ k) t
-part_below box k θ t sound terms lies some =
-    let low = val_low box k.s θ sound terms.0 lies in
-    let high = val_high box k.s θ sound terms.0 lies in
-    let long = val_low box k.d θ sound terms.1 lies in
-    let used = val_low box k.r θ sound terms.2 lies in
+part_below box k θ t well_formed terms lies some =
+    let low = val_low box k.s θ well_formed terms.0 lies in
+    let high = val_high box k.s θ well_formed terms.0 lies in
+    let long = val_low box k.d θ well_formed terms.1 lies in
+    let used = val_low box k.r θ well_formed terms.2 lies in
     part_least (part_of box k) (usage θ k) t high (omega (arith, ints, low, long)) (omega (arith, ints, clamps, used, some)) some
 
 -- where a task clashes with its own part, an assignment does not have it cover the moment
@@ -85,13 +85,13 @@ pub clash_uncovered : (box : List (List ℤ)) (ks : List CumTask) (us : List Use
 unfolding Clashes AreTasks FitsAlways
 clash_uncovered box ks us b j d p t θ ready h own uses most clash lies holds from to =
     let k : CumTask = get_or ks j d in
-    let below = others_least (part_of box) (usage θ) t ks j d h (λ i e within. part_below box (get_or ks i e) θ t ready.sound (ready.tasks.terms i e within) lies (holds.0 i e within).1) in
+    let below = others_least (part_of box) (usage θ) t ks j d h (λ i e within. part_below box (get_or ks i e) θ t ready.well_formed (ready.tasks.terms i e within) lies (holds.0 i e within).1) in
     let whole : part (usage θ k) t ≡ val k.r θ = part_whole (usage θ k) t from to in
     let fits = holds.1 t in
     let sum = amount_append us (map (usage θ) ks) t in
     let parts = amount_append us (map (part_of box) ks) t in
-    let least = val_low box k.r θ ready.sound (ready.tasks.terms j d h).2 lies in
-    let capacity = val_high box b θ ready.sound ready.capacity lies in
+    let least = val_low box k.r θ ready.well_formed (ready.tasks.terms j d h).2 lies in
+    let capacity = val_high box b θ ready.well_formed ready.capacity lies in
     let same : part p.own t ≡ part (part_of box k) t = ap (λ (u : Used). part u t) own in
     omega (arith, ints, below, whole, fits, sum, parts, least, capacity, same, uses, most, clash)
 
@@ -99,11 +99,11 @@ clash_uncovered box ks us b j d p t θ ready h own uses most clash lies holds fr
 pub parts_fit : (box : List (List ℤ)) (ks : List CumTask) (us : List Used) (b : Term) (t : ℤ) (θ : List ℤ) → IsReady box ks us b → InBox box θ → Holds (con.CumulUsed ks us b) θ → amount_at (all_parts box ks us) t ≤ℤ term_high box b
 unfolding AreTasks FitsAlways
 parts_fit box ks us b t θ ready lies holds =
-    let below = all_least (part_of box) (usage θ) t ks (λ i e within. part_below box (get_or ks i e) θ t ready.sound (ready.tasks.terms i e within) lies (holds.0 i e within).1) in
+    let below = all_least (part_of box) (usage θ) t ks (λ i e within. part_below box (get_or ks i e) θ t ready.well_formed (ready.tasks.terms i e within) lies (holds.0 i e within).1) in
     let fits = holds.1 t in
     let sum = amount_append us (map (usage θ) ks) t in
     let parts = amount_append us (map (part_of box) ks) t in
-    let capacity = val_high box b θ ready.sound ready.capacity lies in
+    let capacity = val_high box b θ ready.well_formed ready.capacity lies in
     omega (arith, ints, below, fits, sum, parts, capacity)
 
 -- ---- two moments

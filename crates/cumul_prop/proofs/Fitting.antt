@@ -11,7 +11,7 @@ use Rattle.fzn_model.specs.declared.con.Con.TheVariants as con
 use Rattle.fzn_model.specs.Meaning.{val, Holds}
 use Rattle.fzn_model.specs.Boxes.{InBox}
 use Rattle.fzn_model.specs.Bounds.{term_low, term_high}
-use Rattle.fzn_model.specs.Terms.{val_low, val_high}
+use Rattle.fzn_model.proofs.Terms.{val_low, val_high}
 use Rattle.fzn_model.proofs.Moments.{part}
 use Rattle.dom_store.specs.Strength.{part_of, IsMoment, FitsAt, without, use_at}
 use Rattle.cumul_prop.specs.declared.fits.Place.{Place}
@@ -85,10 +85,10 @@ module _ (box : List (List ℤ)) (ks : List CumTask) (us : List Used) (b : Term)
 
   least_bound : (limit : ℤ) → IsPlace p → IsLeast (all_parts box ks us) profile p (term_low box (get_or ks j d).s) limit → (θ : List ℤ) → InBox box θ → Holds (con.CumulUsed ks us b) θ → limit ≤ℤ val (get_or ks j d).s θ
   unfolding IsLeast Covers
-  least_bound limit place (inl (is, fits)) θ lies holds = let low = val_low box (get_or ks j d).s θ ready.sound (ready.tasks.terms j d inside).0 lies in omega (arith, ints, is, low)
+  least_bound limit place (inl (is, fits)) θ lies holds = let low = val_low box (get_or ks j d).s θ ready.well_formed (ready.tasks.terms j d inside).0 lies in omega (arith, ints, is, low)
   least_bound limit place (inr (t, clash, next)) θ lies holds =
-      let low = val_low box (get_or ks j d).s θ ready.sound (ready.tasks.terms j d inside).0 lies in
-      let long = val_low box (get_or ks j d).d θ ready.sound (ready.tasks.terms j d inside).1 lies in
+      let low = val_low box (get_or ks j d).s θ ready.well_formed (ready.tasks.terms j d inside).0 lies in
+      let long = val_low box (get_or ks j d).d θ ready.well_formed (ready.tasks.terms j d inside).1 lies in
       let duration = of.duration in
       let some = place.duration.0 in
       let covered = clash.covered in
@@ -101,11 +101,11 @@ module _ (box : List (List ℤ)) (ks : List CumTask) (us : List Used) (b : Term)
 
   greatest_bound : (limit : ℤ) → IsGreatest (all_parts box ks us) profile p (term_high box (get_or ks j d).s) limit → (θ : List ℤ) → InBox box θ → Holds (con.CumulUsed ks us b) θ → val (get_or ks j d).s θ ≤ℤ limit
   unfolding IsGreatest Covers
-  greatest_bound limit (inl (is, fits)) θ lies holds = let high = val_high box (get_or ks j d).s θ ready.sound (ready.tasks.terms j d inside).0 lies in omega (arith, ints, is, high)
+  greatest_bound limit (inl (is, fits)) θ lies holds = let high = val_high box (get_or ks j d).s θ ready.well_formed (ready.tasks.terms j d inside).0 lies in omega (arith, ints, is, high)
   greatest_bound limit (inr (t, clash, is)) θ lies holds = by_lt_z limit (val (get_or ks j d).s θ)
       (λ later.
-      let high = val_high box (get_or ks j d).s θ ready.sound (ready.tasks.terms j d inside).0 lies in
-      let long = val_low box (get_or ks j d).d θ ready.sound (ready.tasks.terms j d inside).1 lies in
+      let high = val_high box (get_or ks j d).s θ ready.well_formed (ready.tasks.terms j d inside).0 lies in
+      let long = val_low box (get_or ks j d).d θ ready.well_formed (ready.tasks.terms j d inside).1 lies in
       let duration = of.duration in
       let covered = clash.covered in
       absurd (uncovered t θ clash.clashes lies holds (omega (arith, ints, high, covered.0)) (omega (arith, ints, later, is, long, duration))))
@@ -133,8 +133,8 @@ module _ (box : List (List ℤ)) (ks : List CumTask) (us : List Used) (b : Term)
 pub limit_free : (box : List (List ℤ)) (ks : List CumTask) (us : List Used) (b : Term) (j : ℕ) (d : CumTask) (limit : ℤ × ℤ) → IsReady box ks us b → j < length ks → limit.0 ≡ term_low box (get_or ks j d).s → limit.1 ≡ term_high box (get_or ks j d).s
     → (pos 0 <ℤ term_low box (get_or ks j d).d → pos 0 <ℤ term_low box (get_or ks j d).r → ⊥) → IsLimit box ks us b j (get_or ks j d) limit
 limit_free box ks us b j d limit ready inside low high none = record {
-  least = λ θ lies holds. let l = val_low box (get_or ks j d).s θ ready.sound (ready.tasks.terms j d inside).0 lies in omega (arith, ints, l, low);
-  greatest = λ θ lies holds. let l = val_high box (get_or ks j d).s θ ready.sound (ready.tasks.terms j d inside).0 lies in omega (arith, ints, l, high);
+  least = λ θ lies holds. let l = val_low box (get_or ks j d).s θ ready.well_formed (ready.tasks.terms j d inside).0 lies in omega (arith, ints, l, low);
+  greatest = λ θ lies holds. let l = val_high box (get_or ks j d).s θ ready.well_formed (ready.tasks.terms j d inside).0 lies in omega (arith, ints, l, high);
   low = λ some also within. absurd (none some also);
   high = λ some also within. absurd (none some also);
 }

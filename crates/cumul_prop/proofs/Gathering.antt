@@ -4,11 +4,11 @@ use Rattle.std.specs.Prelude.{All}
 use Rattle.std.proofs.lemmas.List.{length-map, length-append, map_more, append_assoc}
 use Rattle.fzn_model.specs.declared.cumulative.CumTask.{CumTask}
 use Rattle.fzn_model.specs.declared.cumulative.Used.{Used}
-use Rattle.fzn_model.specs.Kept.{TasksKept, UsedKept, of_call}
+use Rattle.fzn_model.specs.Limits.{TasksInLimits, UsedInLimits, of_call}
 use Rattle.dom_store.specs.Strength.{part_of}
 use Rattle.cumul_prop.specs.Parts.{all_parts, IsPart, AreParts}
 
-pub used_parts : (us : List Used) → UsedKept of_call us → All IsPart us
+pub used_parts : (us : List Used) → UsedInLimits of_call us → All IsPart us
 used_parts us kept k d h = record {
   amount = (kept.amounts k d h).0;
   small = (kept.amounts k d h).1;
@@ -16,7 +16,7 @@ used_parts us kept k d h = record {
   to = (kept.moments k d h).1;
 }
 
-pub all_gathered : (n : ℕ) (box : List (List ℤ)) (ks : List CumTask) (us all : List Used) → TasksKept n ks → UsedKept of_call us → all ≡ all_parts box ks us → All IsPart all → AreParts all
+pub all_gathered : (n : ℕ) (box : List (List ℤ)) (ks : List CumTask) (us all : List Used) → TasksInLimits n ks → UsedInLimits of_call us → all ≡ all_parts box ks us → All IsPart all → AreParts all
 all_gathered n box ks us all tasks used is each = record {
   count = subst (λ (xs : List Used). length xs ≤ 10000000) (sym is) (omega (arith, length-append us (map (part_of box) ks), length-map ks (part_of box), tasks.count, used.count));
   each = each;

@@ -7,12 +7,12 @@ use Rattle.fzn_model.specs.declared.term.Term.{Term}
 use Rattle.fzn_model.specs.declared.cumulative.CumTask.{CumTask}
 use Rattle.fzn_model.specs.declared.cumulative.Used.{Used}
 use Rattle.fzn_model.specs.declared.con.Con.TheVariants as con
-use Rattle.fzn_model.specs.Booleans.{Suits}
+use Rattle.fzn_model.specs.Booleans.{FitsBox}
 use Rattle.fzn_model.specs.Meaning.{val, amount_at, usage, AreTasks, Holds}
 use Rattle.fzn_model.specs.Starts.{StartsFit, TaskStartsFit}
 use Rattle.fzn_model.specs.Boxes.{IsBox, InBox}
 use Rattle.fzn_model.specs.Bounds.{term_low, term_high, IsFixed}
-use Rattle.fzn_model.specs.Terms.{fixed_val, low_to_high}
+use Rattle.fzn_model.proofs.Terms.{fixed_val, low_to_high}
 use Rattle.fzn_model.proofs.Moments.{starts_enough}
 use Rattle.dom_store.specs.Stores.{Stored}
 use Rattle.dom_store.specs.Narrowing.{HasNone}
@@ -20,8 +20,8 @@ use Rattle.dom_store.specs.declared.pass.Passed.{Passed}
 use Rattle.dom_store.specs.declared.pass.Passed.TheVariants as passed
 use Rattle.dom_store.specs.Passes.{Concludes}
 use Rattle.dom_store.specs.Strength.{part_of, FitsAt, IsChecked, IsOwed}
-use Rattle.dom_store.specs.Steps.{Steps}
-use Rattle.dom_store.proofs.Stepping.{step_none, step_known, step_then, step_end, step_concludes}
+use Rattle.dom_store.specs.Steps.{Step}
+use Rattle.dom_store.proofs.Stepping.{step_none, step_as, step_then, step_end, step_concludes}
 use Rattle.cumul_prop.specs.Parts.{IsReady, IsSigned, AreSignedTo, all_parts, HasMoment, IsUseAt, IsProfileTo, AreWithin}
 use Rattle.cumul_prop.specs.Limits.{AreLimits}
 use Rattle.cumul_prop.specs.Narrowing.{IsSignedAll, LimitedAt, LimitedTo, IsFitted}
@@ -29,8 +29,8 @@ use Rattle.cumul_prop.proofs.Amounts.{parts_fit}
 use Rattle.cumul_prop.proofs.Fitting.{moment_in}
 use Rattle.cumul_prop.proofs.Signing.{ready_on}
 
-pub ready_first : (box : List (List ℤ)) (ks : List CumTask) (us : List Used) (b : Term) → IsBox box → Suits box (con.CumulUsed ks us b) → IsReady box ks us b
-ready_first box ks us b sound suits = record { sound = sound; tasks = suits.kept.0; used = suits.kept.1; capacity = suits.kept.2 }
+pub ready_first : (box : List (List ℤ)) (ks : List CumTask) (us : List Used) (b : Term) → IsBox box → FitsBox box (con.CumulUsed ks us b) → IsReady box ks us b
+ready_first box ks us b well_formed fits_box = record { well_formed = well_formed; tasks = fits_box.kept.0; used = fits_box.kept.1; capacity = fits_box.kept.2 }
 
 -- ---- what is used for sure fits
 module _ (box : List (List ℤ)) (ks : List CumTask) (us : List Used) (b : Term) (profile : List (ℤ × ℤ)) (ready : IsReady box ks us b) (whole : IsProfileTo (all_parts box ks us) (length (all_parts box ks us)) profile) where
@@ -67,14 +67,14 @@ module _ (box : List (List ℤ)) (ks : List CumTask) (us : List Used) (b : Term)
 
 -- ---- the parts of a pass in a row
 pub none_fits : (ks : List CumTask) (us : List Used) (b : Term) (all : List Used) (profile : List (ℤ × ℤ)) (s : Stored) → IsReady s.box ks us b → all ≡ all_parts s.box ks us → IsProfileTo all (length all) profile
-    → (AreWithin (term_high s.box b) profile → ⊥) → Steps (IsFitted ks us b) (con.CumulUsed ks us b) s s passed.Empty
-none_fits ks us b all profile s ready is whole over = step_none (IsFitted ks us b) (con.CumulUsed ks us b) s ready.sound
+    → (AreWithin (term_high s.box b) profile → ⊥) → Step (IsFitted ks us b) (Holds (con.CumulUsed ks us b)) s s passed.Empty
+none_fits ks us b all profile s ready is whole over = step_none (IsFitted ks us b) (Holds (con.CumulUsed ks us b)) s ready.well_formed
     (over_none s.box ks us b profile ready (subst (λ (xs : List Used). IsProfileTo xs (length xs) profile) is whole) over)
 
 pub all_fit : (ks : List CumTask) (us : List Used) (b : Term) (all : List Used) (profile limits : List (ℤ × ℤ)) (old new : Stored) (result : Passed) → IsReady old.box ks us b → all ≡ all_parts old.box ks us → IsProfileTo all (length all) profile
-    → AreWithin (term_high old.box b) profile → AreLimits old.box ks us b (length ks) limits → Steps (LimitedTo ks limits (length ks)) (con.CumulUsed ks us b) old new result → Steps (IsFitted ks us b) (con.CumulUsed ks us b) old new result
+    → AreWithin (term_high old.box b) profile → AreLimits old.box ks us b (length ks) limits → Step (LimitedTo ks limits (length ks)) (Holds (con.CumulUsed ks us b)) old new result → Step (IsFitted ks us b) (Holds (con.CumulUsed ks us b)) old new result
 all_fit ks us b all profile limits old new result ready is whole within are step =
-    step_known (LimitedTo ks limits (length ks)) (IsFitted ks us b) (con.CumulUsed ks us b) old new result
+    step_as (LimitedTo ks limits (length ks)) (IsFitted ks us b) (Holds (con.CumulUsed ks us b)) old new result
     (λ same limited.
     let here : LimitedTo ks limits (length ks) old.box = subst (LimitedTo ks limits (length ks)) same limited in
     subst (IsFitted ks us b) (sym same) (fitted old.box ks us b profile ready (subst (λ (xs : List Used). IsProfileTo xs (length xs) profile) is whole) limits within are here))
@@ -104,16 +104,16 @@ module _ (box : List (List ℤ)) (ks : List CumTask) (us : List Used) (b : Term)
   signed_at j d h = signed.tasks j d h
 
   is_start : (j : ℕ) (d : CumTask) → j < length ks → val (get_or ks j d).s θ ≡ term_low box (get_or ks j d).s
-  is_start j d h = fixed_val box (get_or ks j d).s θ ready.sound (ready.tasks.terms j d h).0 (starts j d h) lies
+  is_start j d h = fixed_val box (get_or ks j d).s θ ready.well_formed (ready.tasks.terms j d h).0 (starts j d h) lies
 
   is_length : (j : ℕ) (d : CumTask) → j < length ks → val (get_or ks j d).d θ ≡ term_low box (get_or ks j d).d
-  is_length j d h = fixed_val box (get_or ks j d).d θ ready.sound (ready.tasks.terms j d h).1 (lengths j d h) lies
+  is_length j d h = fixed_val box (get_or ks j d).d θ ready.well_formed (ready.tasks.terms j d h).1 (lengths j d h) lies
 
   is_use : (j : ℕ) (d : CumTask) → j < length ks → val (get_or ks j d).r θ ≡ term_low box (get_or ks j d).r
-  is_use j d h = fixed_val box (get_or ks j d).r θ ready.sound (ready.tasks.terms j d h).2 (uses j d h) lies
+  is_use j d h = fixed_val box (get_or ks j d).r θ ready.well_formed (ready.tasks.terms j d h).2 (uses j d h) lies
 
   is_capacity : val b θ ≡ term_low box b
-  is_capacity = fixed_val box b θ ready.sound ready.capacity capacity lies
+  is_capacity = fixed_val box b θ ready.well_formed ready.capacity capacity lies
 
   are_tasks : AreTasks ks θ
   unfolding AreTasks
@@ -175,7 +175,7 @@ checked box ks us b ready signed fits fixed θ lies =
 
 owed : (box : List (List ℤ)) (ks : List CumTask) (us : List Used) (b : Term) → IsReady box ks us b → IsSignedAll ks b box → IsFitted ks us b box → IsOwed box (con.CumulUsed ks us b)
 owed box ks us b ready signed fits =
-    let ordered = low_to_high box b ready.sound ready.capacity in
+    let ordered = low_to_high box b ready.well_formed ready.capacity in
     let some = signed.capacity in
     record {
       kind = record { capacity = omega (arith, ints, ordered, some); parts = fits.parts; starts = fits.starts };
@@ -183,17 +183,17 @@ owed box ks us b ready signed fits =
     }
 
 -- ---- a whole pass
-pub pass_none : (ks : List CumTask) (us : List Used) (b : Term) (old new : Stored) → Steps (IsSignedAll ks b) (con.CumulUsed ks us b) old new passed.Empty → Concludes (con.CumulUsed ks us b) old.box new.box passed.Empty
-pass_none ks us b old new step = step_concludes (con.CumulUsed ks us b) old new passed.Empty (step_end (IsSignedAll ks b) (λ box. IsOwed box (con.CumulUsed ks us b)) (con.CumulUsed ks us b) old new step)
+pub pass_none : (ks : List CumTask) (us : List Used) (b : Term) (old new : Stored) → Step (IsSignedAll ks b) (Holds (con.CumulUsed ks us b)) old new passed.Empty → Concludes (con.CumulUsed ks us b) old.box new.box passed.Empty
+pass_none ks us b old new step = step_concludes (con.CumulUsed ks us b) old new passed.Empty (step_end (IsSignedAll ks b) (λ box. IsOwed box (con.CumulUsed ks us b)) (Holds (con.CumulUsed ks us b)) old new step)
 
-pub pass_says : (ks : List CumTask) (us : List Used) (b : Term) (old mid new : Stored) (result : Passed) → IsReady old.box ks us b → Steps (IsSignedAll ks b) (con.CumulUsed ks us b) old mid passed.Done → Steps (IsFitted ks us b) (con.CumulUsed ks us b) mid new result → Concludes (con.CumulUsed ks us b) old.box new.box result
+pub pass_says : (ks : List CumTask) (us : List Used) (b : Term) (old mid new : Stored) (result : Passed) → IsReady old.box ks us b → Step (IsSignedAll ks b) (Holds (con.CumulUsed ks us b)) old mid passed.Done → Step (IsFitted ks us b) (Holds (con.CumulUsed ks us b)) mid new result → Concludes (con.CumulUsed ks us b) old.box new.box result
 pass_says ks us b old mid new result ready first second =
-    let here : IsReady mid.box ks us b = ready_on ks us b (con.CumulUsed ks us b) old mid first.runs first.sound ready in
-    let last : IsReady new.box ks us b = ready_on ks us b (con.CumulUsed ks us b) mid new second.runs second.sound here in
+    let here : IsReady mid.box ks us b = ready_on ks us b (con.CumulUsed ks us b) old mid first.prunes first.well_formed ready in
+    let last : IsReady new.box ks us b = ready_on ks us b (con.CumulUsed ks us b) mid new second.prunes second.well_formed here in
     step_concludes (con.CumulUsed ks us b) old new result
-    (step_then (IsSignedAll ks b) (IsFitted ks us b) (λ box. IsOwed box (con.CumulUsed ks us b)) (con.CumulUsed ks us b) old mid new result (owed new.box ks us b last) first second)
+    (step_then (IsSignedAll ks b) (IsFitted ks us b) (λ box. IsOwed box (con.CumulUsed ks us b)) (Holds (con.CumulUsed ks us b)) old mid new result (owed new.box ks us b last) first second)
 
-pub pass_says_of : {E : Type 0} (ks : List CumTask) (us : List Used) (b : Term) (old mid new : Stored) (result : Result Passed E) → IsReady old.box ks us b → Steps (IsSignedAll ks b) (con.CumulUsed ks us b) old mid passed.Done → IfOk result (Steps (IsFitted ks us b) (con.CumulUsed ks us b) mid new)
+pub pass_says_of : {E : Type 0} (ks : List CumTask) (us : List Used) (b : Term) (old mid new : Stored) (result : Result Passed E) → IsReady old.box ks us b → Step (IsSignedAll ks b) (Holds (con.CumulUsed ks us b)) old mid passed.Done → IfOk result (Step (IsFitted ks us b) (Holds (con.CumulUsed ks us b)) mid new)
     → IfOk result (Concludes (con.CumulUsed ks us b) old.box new.box)
 pass_says_of ks us b old mid new (Ok answer) ready first second = pass_says ks us b old mid new answer ready first second
 pass_says_of ks us b old mid new (Err e) ready first second = tt

@@ -2,7 +2,7 @@
 use Rattle.std.proofs.Common.{◌≡◌, ℕ, List, get_or, ℤ, pos, ◌-ℤ◌, arith, inl, inr}
 use Rattle.std.proofs.lemmas.Int.{ints}
 use Rattle.fzn_model.specs.declared.cumulative.Used.{Used}
-use Rattle.fzn_model.specs.Kept.{IsValue, IsNear}
+use Rattle.fzn_model.specs.Limits.{IsValue, IsNear}
 use Rattle.cumul_prop.specs.declared.fits.Place.{Place}
 use Rattle.cumul_prop.specs.Limits.{IsPlace, Clashes, Covers, FitsThere, IsClash, IsLeast, IsGreatest, IsNext}
 

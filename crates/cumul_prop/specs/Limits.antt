@@ -7,7 +7,7 @@ use Rattle.fzn_model.specs.declared.con.Con.TheVariants as con
 use Rattle.fzn_model.specs.Meaning.{val, amount_at, Holds}
 use Rattle.fzn_model.specs.Boxes.{InBox}
 use Rattle.fzn_model.specs.Bounds.{term_low, term_high}
-use Rattle.fzn_model.specs.Kept.{IsValue, IsNear}
+use Rattle.fzn_model.specs.Limits.{IsValue, IsNear}
 use Rattle.fzn_model.proofs.Moments.{part, active}
 use Rattle.dom_store.specs.Strength.{FitsAt, part_of}
 use Rattle.cumul_prop.specs.declared.fits.Place.{Place}

@@ -3,7 +3,7 @@ use Rattle.std.specs.Prelude.{◌≡◌, ℕ, ◌<◌, ◌≤◌, ◌^◌, ◌++
 use Rattle.fzn_model.specs.declared.term.Term.{Term}
 use Rattle.fzn_model.specs.declared.cumulative.CumTask.{CumTask}
 use Rattle.fzn_model.specs.declared.cumulative.Used.{Used}
-use Rattle.fzn_model.specs.Kept.{TermIn, TasksKept, UsedKept, IsNear, of_call}
+use Rattle.fzn_model.specs.Limits.{TermIn, TasksInLimits, UsedInLimits, IsNear, of_call}
 use Rattle.fzn_model.specs.Meaning.{amount_at}
 use Rattle.fzn_model.specs.Boxes.{IsBox}
 use Rattle.fzn_model.specs.Bounds.{term_low}
@@ -11,9 +11,9 @@ use Rattle.dom_store.specs.Strength.{part_of}
 
 -- a box with the variables of the constraint
 pub record IsReady (box : List (List ℤ)) (ks : List CumTask) (us : List Used) (b : Term) : Type 0 where
-  pub sound : IsBox box
-  pub tasks : TasksKept (length box) ks
-  pub used : UsedKept of_call us
+  pub well_formed : IsBox box
+  pub tasks : TasksInLimits (length box) ks
+  pub used : UsedInLimits of_call us
   pub capacity : TermIn (length box) b
 
 -- the length and the use of a task aren't negative

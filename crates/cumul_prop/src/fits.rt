@@ -1,7 +1,6 @@
 //! Whether a task fits at a start.
-ghost use Rattle.std.specs.Prelude.{◌≡◌, ◌↔◌, ◌<◌, ◌≤◌, ◌*◌, ◌^◌, ◌≤ℤ◌, ◌<ℤ◌, ◌+ℤ◌, ◌-ℤ◌, pos, ℤ, All, IsTrue, IsFalse, length, unsigned_abs, IfSome, IfNone, slice_index_or};
-ghost use Rattle.fzn_model.specs.Kept.{IsValue, IsNear};
-ghost use Rattle.std.specs.Prelude.{◌+◌};
+ghost use Rattle.std.specs.Prelude.{◌≡◌, ◌↔◌, ◌<◌, ◌≤◌, ◌*◌, ◌^◌, ◌≤ℤ◌, ◌<ℤ◌, ◌+ℤ◌, ◌-ℤ◌, pos, ℤ, All, IsTrue, IsFalse, length, unsigned_abs, IfSome, IfNone, slice_index_or, ◌+◌};
+ghost use Rattle.fzn_model.specs.Limits.{IsValue, IsNear};
 ghost use Rattle.fzn_model.proofs.Moments.{part, active};
 ghost use Rattle.cumul_prop.specs.Parts.{AreParts, IsUseAt};
 ghost use Rattle.cumul_prop.specs.Limits.{IsPlace, IsClash, Clashes, Covers, FitsThere, IsLeast, IsGreatest, NoneUsed, IsFirstEnd, EndsFirst, IsNext};

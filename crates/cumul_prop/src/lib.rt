@@ -11,7 +11,7 @@
 //! Where all terms are fixed, the constraint holds. A first start that doesn't fit because of a moment goes at once to where
 //! the first of the amounts ends that are used there; a last start goes back to where its task ends at that moment.
 //!
-//! What it costs: a pass over n tasks and used amounts takes a number of steps that grows with the square of n, and memory
+//! What it costs: a pass over n tasks and used amounts takes a number of steps that grows with the cube of n, and memory
 //! for the compulsory parts and what is used where they begin and end. A run makes passes until one removes nothing.
 //!
 //! What it stands on: dom_store for stores and terms, fzn_model for constraints.

@@ -1,7 +1,7 @@
 //! What the starts of the tasks can be.
-ghost use Rattle.std.specs.Prelude.{◌≡◌, ◌<◌, ◌<ℤ◌, pos, length, IsTrue, IsFalse, IfOk, slice_index_or, ◌↔◌};
+ghost use Rattle.std.specs.Prelude.{◌≡◌, ◌<◌, pos, length, IsTrue, IfOk, slice_index_or, ◌↔◌};
 ghost use Rattle.fzn_model.specs.declared.term.Term.TheVariants as term;
-ghost use Rattle.fzn_model.specs.Kept.{TermIn, IsValue};
+ghost use Rattle.fzn_model.specs.Limits.{TermIn, IsValue};
 ghost use Rattle.fzn_model.specs.Bounds.{term_low, term_high};
 ghost use Rattle.cumul_prop.specs.Parts.{IsReady, AreParts, IsProfileTo, all_parts};
 ghost use Rattle.cumul_prop.specs.Limits.{IsPlace, IsPlaceOf, NeedsPlace, IsLeast, IsGreatest, IsLimit, AreLimits};

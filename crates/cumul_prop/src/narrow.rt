@@ -1,13 +1,14 @@
 //! What is used for sure fits, and each task fits at its first and at its last start.
 ghost use Rattle.std.specs.Prelude.{◌≡◌, ◌↔◌, length, IsTrue, IfOk};
 ghost use Rattle.fzn_model.specs.declared.con.Con.TheVariants as con;
-ghost use Rattle.dom_store.specs.Propagation.{Runs};
-ghost use Rattle.dom_store.specs.Steps.{Steps};
-ghost use Rattle.fzn_model.specs.Kept.{TermIn};
+ghost use Rattle.dom_store.specs.Narrowing.{Prunes};
+ghost use Rattle.dom_store.specs.Steps.{Step};
+ghost use Rattle.fzn_model.specs.Limits.{TermIn};
 ghost use Rattle.fzn_model.specs.Bounds.{term_high};
 ghost use Rattle.cumul_prop.specs.Parts.{IsReady, AreParts, IsProfileTo, AreWithin, all_parts};
 ghost use Rattle.cumul_prop.specs.Limits.{AreLimits};
 ghost use Rattle.cumul_prop.specs.Narrowing.{IsFitted};
+ghost use Rattle.fzn_model.specs.Meaning.{Holds};
 
 use crate::limits::limits_of;
 use crate::parts::parts;
@@ -41,7 +42,7 @@ fn limit_by(
     requires profile { IsProfileTo all.now (length all.now) profile.now }
     requires within { AreWithin (term_high store.old.box capacity) profile.now }
     requires limits { AreLimits store.old.box tasks.now used.now capacity (length tasks.now) limits.now }
-    ensures { Steps (IsFitted tasks.now used.now capacity) (con.CumulUsed tasks.now used.now capacity) store.old store.new result }
+    ensures { Step (IsFitted tasks.now used.now capacity) (Holds (con.CumulUsed tasks.now used.now capacity)) store.old store.new result }
 {
     limit_starts(store, tasks, used, capacity, limits)
 }
@@ -60,8 +61,8 @@ fn narrow_by(
     requires whole { all.now ≡ all_parts store.old.box tasks.now used.now }
     requires all { AreParts all.now }
     requires profile { IsProfileTo all.now (length all.now) profile.now }
-    ensures runs { Runs (con.CumulUsed tasks.now used.now capacity) store.old store.new }
-    ensures steps { IfOk result (Steps (IsFitted tasks.now used.now capacity) (con.CumulUsed tasks.now used.now capacity) store.old store.new) }
+    ensures prunes { Prunes (Holds (con.CumulUsed tasks.now used.now capacity)) store.old store.new }
+    ensures steps { IfOk result (Step (IsFitted tasks.now used.now capacity) (Holds (con.CumulUsed tasks.now used.now capacity)) store.old store.new) }
 {
     if !fits(store, profile, capacity) {
         return Ok(Passed::Empty);
@@ -87,8 +88,8 @@ pub(crate) fn narrow_starts(
     capacity: Term,
 ) -> Result<Passed, AllocError>
     requires { IsReady store.old.box tasks.now used.now capacity }
-    ensures runs { Runs (con.CumulUsed tasks.now used.now capacity) store.old store.new }
-    ensures steps { IfOk result (Steps (IsFitted tasks.now used.now capacity) (con.CumulUsed tasks.now used.now capacity) store.old store.new) }
+    ensures prunes { Prunes (Holds (con.CumulUsed tasks.now used.now capacity)) store.old store.new }
+    ensures steps { IfOk result (Step (IsFitted tasks.now used.now capacity) (Holds (con.CumulUsed tasks.now used.now capacity)) store.old store.new) }
 {
     let all = parts(alloc, store, tasks, used)?;
     let profile = profile_of(alloc, all.as_slice())?;

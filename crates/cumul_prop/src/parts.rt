@@ -1,8 +1,9 @@
 //! Compulsory parts, and what is used at a moment.
-ghost use Rattle.std.specs.Prelude.{◌≡◌, ◌*◌, ◌^◌, ◌≤◌, ◌≤ℤ◌, ◌+ℤ◌, ◌++◌, pos, map, length, unsigned_abs, IfOk};
+ghost use Rattle.std.specs.Prelude.{◌≡◌, ◌*◌, ◌^◌, ◌≤◌, ◌≤ℤ◌, ◌+ℤ◌, pos, length, unsigned_abs, IfOk};
 ghost use Rattle.std.specs.Int.{int_max};
+ghost use Rattle.fzn_model.specs.Values.{largest};
 ghost use Rattle.fzn_model.specs.declared.cumulative.Used.{Used};
-ghost use Rattle.fzn_model.specs.Kept.{TermIn, TasksKept, UsedKept, IsNear, of_call};
+ghost use Rattle.fzn_model.specs.Limits.{TermIn, TasksInLimits, UsedInLimits, IsNear, of_call};
 ghost use Rattle.fzn_model.specs.Bounds.{term_low};
 ghost use Rattle.fzn_model.specs.Meaning.{amount_at};
 ghost use Rattle.fzn_model.proofs.Moments.{part};
@@ -27,7 +28,7 @@ fn first_end(store: &Store, task: &CumTask) -> i64
 fn least_use(store: &Store, task: &CumTask) -> i128
     requires { TermIn (length store.now.box) task.now.r }
     ensures value { result ≡ int_max (pos 0) (term_low store.now.box task.now.r) }
-    ensures small { unsigned_abs result ≤ 1000000 }
+    ensures small { unsigned_abs result ≤ largest }
 {
     i128::from(least(store, task.r)).max(0)
 }
@@ -53,8 +54,8 @@ pub(crate) fn parts(
     tasks: &[CumTask],
     used: &[Used],
 ) -> Result<Vec<Used>, AllocError>
-    requires tasks { TasksKept (length store.now.box) tasks.now }
-    requires used { UsedKept of_call used.now }
+    requires tasks { TasksInLimits (length store.now.box) tasks.now }
+    requires used { UsedInLimits of_call used.now }
     ensures value { IfOk result (λ all. all.items ≡ all_parts store.now.box tasks.now used.now) }
     ensures parts { IfOk result (λ all. AreParts all.items) }
 {

@@ -1,6 +1,6 @@
 //! What is used at the moments where used amounts and compulsory parts begin and end.
 ghost use Rattle.std.specs.Prelude.{◌≡◌, ◌↔◌, ◌+◌, ◌<◌, ℤ, All, IsTrue, length, IfOk, OnOk};
-ghost use Rattle.fzn_model.specs.Kept.{IsNear};
+ghost use Rattle.fzn_model.specs.Limits.{IsNear};
 ghost use Rattle.cumul_prop.specs.Parts.{AreParts, IsUseAt, HasMoment, IsProfileTo, AreWithin};
 
 use crate::parts::load;

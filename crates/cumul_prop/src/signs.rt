@@ -1,11 +1,12 @@
 //! Lengths, uses and the capacity aren't negative.
-ghost use Rattle.std.specs.Prelude.{◌≡◌, ◌<◌, pos, length};
+ghost use Rattle.std.specs.Prelude.{◌<◌, pos, length};
 ghost use Rattle.fzn_model.specs.declared.con.Con.TheVariants as con;
-ghost use Rattle.dom_store.specs.Steps.{Steps, LowIs};
+ghost use Rattle.dom_store.specs.Steps.{Step, LowIs};
 ghost use Rattle.cumul_prop.specs.Parts.{IsReady, AreSignedTo};
 ghost use Rattle.cumul_prop.specs.Narrowing.{SignedAt, IsSignedAll};
+ghost use Rattle.fzn_model.specs.Meaning.{Holds};
 
-use dom_store::{Passed, Store, raise_to};
+use dom_store::{Passed, Store, cut_below};
 use fzn_model::{CumTask, Term, Used};
 
 /// The length and the use of a task aren't negative.
@@ -18,20 +19,20 @@ fn sign_task(
 ) -> Passed
     requires ready { IsReady store.old.box tasks.now used.now capacity }
     requires at { at < length tasks.now }
-    ensures { Steps (SignedAt tasks.now at) (con.CumulUsed tasks.now used.now capacity) store.old store.new result }
+    ensures { Step (SignedAt tasks.now at) (Holds (con.CumulUsed tasks.now used.now capacity)) store.old store.new result }
 {
-    match raise_to(store, tasks[at].d, &0) {
+    match cut_below(store, tasks[at].d, &0) {
         Passed::Empty => return Passed::Empty,
         Passed::Done => {}
     }
-    raise_to(store, tasks[at].r, &0)
+    cut_below(store, tasks[at].r, &0)
 }
 
 /// No length and no use is negative.
 #[tactic(auto, using(crate::proofs::Signing::signed_none, crate::proofs::Signing::signed_more, crate::proofs::Signing::signed_end, crate::proofs::Signing::ready_on))]
 fn sign_tasks(store: &mut Store, tasks: &[CumTask], used: &[Used], capacity: Term) -> Passed
     requires { IsReady store.old.box tasks.now used.now capacity }
-    ensures { Steps (AreSignedTo tasks.now (length tasks.now)) (con.CumulUsed tasks.now used.now capacity) store.old store.new result }
+    ensures { Step (AreSignedTo tasks.now (length tasks.now)) (Holds (con.CumulUsed tasks.now used.now capacity)) store.old store.new result }
 {
     for at in 0..tasks.len() {
         match sign_task(store, tasks, used, capacity, at) {
@@ -45,9 +46,9 @@ fn sign_tasks(store: &mut Store, tasks: &[CumTask], used: &[Used], capacity: Ter
 /// The capacity isn't negative.
 fn sign_capacity(store: &mut Store, tasks: &[CumTask], used: &[Used], capacity: Term) -> Passed
     requires { IsReady store.old.box tasks.now used.now capacity }
-    ensures { Steps (LowIs capacity (pos 0)) (con.CumulUsed tasks.now used.now capacity) store.old store.new result }
+    ensures { Step (LowIs capacity (pos 0)) (Holds (con.CumulUsed tasks.now used.now capacity)) store.old store.new result }
 {
-    raise_to(store, capacity, &0)
+    cut_below(store, capacity, &0)
 }
 
 /// No length, no use and not the capacity is negative.
@@ -59,7 +60,7 @@ pub(crate) fn sign_terms(
     capacity: Term,
 ) -> Passed
     requires { IsReady store.old.box tasks.now used.now capacity }
-    ensures { Steps (IsSignedAll tasks.now capacity) (con.CumulUsed tasks.now used.now capacity) store.old store.new result }
+    ensures { Step (IsSignedAll tasks.now capacity) (Holds (con.CumulUsed tasks.now used.now capacity)) store.old store.new result }
 {
     match sign_tasks(store, tasks, used, capacity) {
         Passed::Empty => return Passed::Empty,

@@ -1,11 +1,12 @@
 //! Starts are kept within limits.
-ghost use Rattle.std.specs.Prelude.{◌≡◌, ◌<◌, pos, length};
+ghost use Rattle.std.specs.Prelude.{◌≡◌, ◌<◌, length};
 ghost use Rattle.fzn_model.specs.declared.con.Con.TheVariants as con;
-ghost use Rattle.dom_store.specs.Steps.{Steps};
+ghost use Rattle.dom_store.specs.Steps.{Step};
 ghost use Rattle.cumul_prop.specs.Parts.{IsReady};
 ghost use Rattle.cumul_prop.specs.Narrowing.{Bounded, AllBounded, LimitedAt, LimitedTo};
+ghost use Rattle.fzn_model.specs.Meaning.{Holds};
 
-use dom_store::{Passed, Store, cap_to, raise_to};
+use dom_store::{Passed, Store, cut_above, cut_below};
 use fzn_model::{CumTask, Term, Used};
 
 /// Keeps the start of a task within its limits.
@@ -21,13 +22,13 @@ fn limit_start(
     requires at { at < length tasks.now }
     requires count { length limits.now ≡ length tasks.now }
     requires bounded { Bounded tasks.now used.now capacity limits.now at store.old.box }
-    ensures { Steps (LimitedAt tasks.now limits.now at) (con.CumulUsed tasks.now used.now capacity) store.old store.new result }
+    ensures { Step (LimitedAt tasks.now limits.now at) (Holds (con.CumulUsed tasks.now used.now capacity)) store.old store.new result }
 {
-    match raise_to(store, tasks[at].s, &limits[at].0) {
+    match cut_below(store, tasks[at].s, &limits[at].0) {
         Passed::Empty => return Passed::Empty,
         Passed::Done => {}
     }
-    cap_to(store, tasks[at].s, &limits[at].1)
+    cut_above(store, tasks[at].s, &limits[at].1)
 }
 
 /// Keeps the start of each task within its limits.
@@ -42,7 +43,7 @@ pub(crate) fn limit_starts(
     requires ready { IsReady store.old.box tasks.now used.now capacity }
     requires count { length limits.now ≡ length tasks.now }
     requires bounded { AllBounded tasks.now used.now capacity limits.now store.old.box }
-    ensures { Steps (LimitedTo tasks.now limits.now (length tasks.now)) (con.CumulUsed tasks.now used.now capacity) store.old store.new result }
+    ensures { Step (LimitedTo tasks.now limits.now (length tasks.now)) (Holds (con.CumulUsed tasks.now used.now capacity)) store.old store.new result }
 {
     for at in 0..tasks.len() {
         match limit_start(store, tasks, used, capacity, limits, at) {

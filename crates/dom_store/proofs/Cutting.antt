@@ -1,5 +1,5 @@
 -- What the narrowing of a term does to a store, from what it does to one domain.
-use Rattle.std.proofs.Common.{◌≡◌, ◌≢◌, ℕ, ◌<◌, ◌≤◌, ◌⊎◌, ◌↔◌, List, [], length, set, refl, sym, ap, subst, ◌∙◌, arith, Bool, true, false, not, inl, inr, length-set}
+use Rattle.std.proofs.Common.{◌≡◌, ◌≢◌, ℕ, ◌<◌, ◌≤◌, ◌⊎◌, ◌↔◌, List, [], length, set, refl, sym, ap, subst, ◌∙◌, arith, Bool, true, false, not, cond, inl, inr, length-set}
 use Rattle.std.specs.Prelude.{ℤ, pos, ◌+ℤ◌, ◌-ℤ◌, ◌≤ℤ◌, ◌<ℤ◌, slice_index_or, ◌&&◌, int_le, int_lt, Contains, MatchBool}
 use Rattle.std.specs.Ordering.{int_eq}
 use Rattle.std.proofs.lemmas.Int.{ints}
@@ -17,7 +17,12 @@ use Rattle.fzn_model.specs.Boxes.{IsBox, IsDomain, domain_at, low_value, high_va
 use Rattle.dom_store.specs.Stores.{Stored, box_size}
 use Rattle.dom_store.specs.Narrowing.{AltersOnly}
 use Rattle.dom_store.specs.Cuts.{Cuts}
-use Rattle.fzn_model.specs.Ends.{low_in, high_in}
+use Rattle.dom_store.specs.declared.domain.Cut.{Cut}
+use Rattle.dom_store.specs.declared.domain.Cut.TheVariants as cut
+use Rattle.dom_store.specs.Steps.{LowIs, HighIs, ValueIs, IsGone}
+use Rattle.dom_store.specs.Kept.{Does, kept_by, reached_by}
+use Rattle.dom_store.proofs.Laws.{stays_refl}
+use Rattle.fzn_model.proofs.Domains.{low_in, high_in}
 use Rattle.dom_store.proofs.Facts.{same_low, same_high}
 
 -- what a narrowing to the values with Q does to a domain
@@ -132,8 +137,7 @@ keeps_cuts Q var old new answer keeps alters inside falls rises =
       };
       elsewhere = λ k apart. elsewhere k (λ same. apart (ap term.Var (sym same)));
       count = count;
-      saved = alters.saved;
-      changes = rises;
+      stays = record { saved = alters.saved; changes = rises };
       same = λ is. same_store var old new answer alters (λ changed. not_both answer Same is changed cc) (keeps.same (λ changed. not_both answer Same is changed cc));
       falls = falls;
       empty = λ is. (
@@ -145,43 +149,31 @@ keeps_cuts Q var old new answer keeps alters inside falls rises =
     not_both : (a b : Narrow) → a ≡ b → a ≡ Changed → (b ≡ Changed → ⊥) → ⊥
     not_both a b is changed apart = apart (sym is ∙ changed)
 
--- ---- each narrowing of a variable
-abbrev Fell : Narrow → Stored → Stored → Type 0
-Fell answer old new = answer ≡ Changed → box_size new.box < box_size old.box
+-- ---- a narrowing of a variable
+does_keeps : (c : Cut) (old new : List ℤ) (answer : Narrow) → Does c old new answer → Keeps (kept_by c) old new answer
+unfolding Does
+does_keeps (cut.Below low) old new answer does = narrows_keeps _ _ old new answer (tests_least low) does
+does_keeps (cut.Above high) old new answer does = narrows_keeps _ _ old new answer (tests_most high) does
+does_keeps (cut.Fix value) old new answer does = narrows_keeps _ _ old new answer (tests_one value) does
+does_keeps (cut.Drop value) old new answer does = drops_keeps value _ old new answer (tests_others value) does
 
-pub raise_cuts : (var : ℕ) (low : ℤ) (old new : Stored) (answer : Narrow) → Narrows (λ x. int_le low x) (domain_at old.box var) (domain_at new.box var) answer → AltersOnly var answer old new
-    → var < length old.box → Fell answer old new → old.changes ≤ new.changes → Cuts (λ z. low ≤ℤ z) (term.Var var) old new answer
-raise_cuts var low old new answer n alters inside falls rises =
-    keeps_cuts _ var old new answer (narrows_keeps _ _ (domain_at old.box var) (domain_at new.box var) answer (tests_least low) n) alters inside falls rises
-
-pub cap_cuts : (var : ℕ) (high : ℤ) (old new : Stored) (answer : Narrow) → Narrows (λ x. int_le x high) (domain_at old.box var) (domain_at new.box var) answer → AltersOnly var answer old new
-    → var < length old.box → Fell answer old new → old.changes ≤ new.changes → Cuts (λ z. z ≤ℤ high) (term.Var var) old new answer
-cap_cuts var high old new answer n alters inside falls rises =
-    keeps_cuts _ var old new answer (narrows_keeps _ _ (domain_at old.box var) (domain_at new.box var) answer (tests_most high) n) alters inside falls rises
-
-pub settle_cuts : (var : ℕ) (value : ℤ) (old new : Stored) (answer : Narrow) → Narrows (λ x. int_eq x value) (domain_at old.box var) (domain_at new.box var) answer → AltersOnly var answer old new
-    → var < length old.box → Fell answer old new → old.changes ≤ new.changes → Cuts (λ z. z ≡ value) (term.Var var) old new answer
-settle_cuts var value old new answer n alters inside falls rises =
-    keeps_cuts _ var old new answer (narrows_keeps _ _ (domain_at old.box var) (domain_at new.box var) answer (tests_one value) n) alters inside falls rises
-
-pub avoid_cuts : (var : ℕ) (value : ℤ) (old new : Stored) (answer : Narrow) → DropsValue value (domain_at old.box var) (domain_at new.box var) answer → AltersOnly var answer old new
-    → var < length old.box → Fell answer old new → old.changes ≤ new.changes → Cuts (λ z. z ≢ value) (term.Var var) old new answer
-avoid_cuts var value old new answer d alters inside falls rises =
-    keeps_cuts _ var old new answer (drops_keeps value _ (domain_at old.box var) (domain_at new.box var) answer (tests_others value) d) alters inside falls rises
+pub variable_cuts : (c : Cut) (var : ℕ) (old new : Stored) (answer : Narrow) → Does c (domain_at old.box var) (domain_at new.box var) answer → AltersOnly var answer old new
+    → var < length old.box → (answer ≡ Changed → box_size new.box < box_size old.box) → old.changes ≤ new.changes → Cuts (kept_by c) (term.Var var) old new answer
+variable_cuts c var old new answer does alters inside falls rises = keeps_cuts (kept_by c) var old new answer (does_keeps c (domain_at old.box var) (domain_at new.box var) answer does) alters inside falls rises
 
 -- the domain of the variable afterwards
-pub domain_there : (var : ℕ) (old new : Stored) (answer : Narrow) → AltersOnly var answer old new → var < length old.box → IsBox new.box → IsDomain (domain_at new.box var)
-domain_there var old new answer alters inside sound = sound var [] (let count = same_count var old new answer alters in omega (arith, count))
+domain_there : (var : ℕ) (old new : Stored) (answer : Narrow) → AltersOnly var answer old new → var < length old.box → IsBox new.box → IsDomain (domain_at new.box var)
+domain_there var old new answer alters inside well_formed = well_formed var [] (let count = same_count var old new answer alters in omega (arith, count))
 
 -- ---- what is reached, where some value stays
-pub raise_reaches : (low : ℤ) (xs ys : List ℤ) (answer : Narrow) → Narrows (λ x. int_le low x) xs ys answer → IsDomain ys → (answer ≡ Empty → ⊥) → low ≤ℤ low_value ys
-raise_reaches low xs ys answer n d some = narrows_pass (λ x. int_le low x) (λ z. low ≤ℤ z) xs ys answer (tests_least low) n some (low_value ys) (low_in ys d)
+low_reached : (low : ℤ) (xs ys : List ℤ) (answer : Narrow) → Narrows (λ x. int_le low x) xs ys answer → IsDomain ys → (answer ≡ Empty → ⊥) → low ≤ℤ low_value ys
+low_reached low xs ys answer n d some = narrows_pass (λ x. int_le low x) (λ z. low ≤ℤ z) xs ys answer (tests_least low) n some (low_value ys) (low_in ys d)
 
-pub cap_reaches : (high : ℤ) (xs ys : List ℤ) (answer : Narrow) → Narrows (λ x. int_le x high) xs ys answer → IsDomain ys → (answer ≡ Empty → ⊥) → high_value ys ≤ℤ high
-cap_reaches high xs ys answer n d some = narrows_pass (λ x. int_le x high) (λ z. z ≤ℤ high) xs ys answer (tests_most high) n some (high_value ys) (high_in ys d)
+high_reached : (high : ℤ) (xs ys : List ℤ) (answer : Narrow) → Narrows (λ x. int_le x high) xs ys answer → IsDomain ys → (answer ≡ Empty → ⊥) → high_value ys ≤ℤ high
+high_reached high xs ys answer n d some = narrows_pass (λ x. int_le x high) (λ z. z ≤ℤ high) xs ys answer (tests_most high) n some (high_value ys) (high_in ys d)
 
-pub settle_reaches : (value : ℤ) (xs ys : List ℤ) (answer : Narrow) → Narrows (λ x. int_eq x value) xs ys answer → IsDomain ys → (answer ≡ Empty → ⊥) → (low_value ys ≡ value) × (high_value ys ≡ value)
-settle_reaches value xs ys answer n d some =
+value_reached : (value : ℤ) (xs ys : List ℤ) (answer : Narrow) → Narrows (λ x. int_eq x value) xs ys answer → IsDomain ys → (answer ≡ Empty → ⊥) → (low_value ys ≡ value) × (high_value ys ≡ value)
+value_reached value xs ys answer n d some =
     let pass = narrows_pass (λ x. int_eq x value) (λ z. z ≡ value) xs ys answer (tests_one value) n some in
     (pass (low_value ys) (low_in ys d), pass (high_value ys) (high_in ys d))
 
@@ -198,13 +190,55 @@ held_is_open value xs held =
     (omega (arith, ints, wide, low, high), omega (arith, ints, above, low), omega (arith, ints, below, high))
 
 -- the dropped value is gone, or lies strictly between the bounds of a wide domain
-pub avoid_reaches : (value : ℤ) (xs ys : List ℤ) (answer : Narrow) → DropsValue value xs ys answer → (answer ≡ Empty → ⊥) → Contains ys value
+drop_reached : (value : ℤ) (xs ys : List ℤ) (answer : Narrow) → DropsValue value xs ys answer → (answer ≡ Empty → ⊥) → Contains ys value
     → (pos 1024 ≤ℤ (high_value ys -ℤ low_value ys) → (value ≡ low_value ys) ⊎ (value ≡ high_value ys)) → ⊥
 unfolding DropsValue
-avoid_reaches value xs ys answer drops some has bound = reaches_by (is_held value xs) refl drops
+drop_reached value xs ys answer drops some has bound = reaches_by (is_held value xs) refl drops
   where
     reaches_by : (t : Bool) → is_held value xs ≡ t → MatchBool t ((answer ≡ Same) × (ys ≡ xs)) (Narrows (λ x. not (int_eq x value)) xs ys answer) → ⊥
     reaches_by true is held =
         let open_at = held_is_open value ys (ap (is_held value) held.1 ∙ is) in
         elim (bound open_at.0) [ inl low ↦ omega (arith, ints, open_at.1, low) | inr high ↦ omega (arith, ints, open_at.2, high) ]
     reaches_by false is narrows = narrows_pass (λ x. not (int_eq x value)) (λ z. z ≢ value) xs ys answer (tests_others value) narrows some value has refl
+
+pub variable_reached : (c : Cut) (var : ℕ) (old new : Stored) (answer : Narrow) → Does c (domain_at old.box var) (domain_at new.box var) answer → AltersOnly var answer old new
+    → var < length old.box → IsBox new.box → (answer ≡ Empty → ⊥) → reached_by c (term.Var var) new.box
+unfolding Does LowIs HighIs ValueIs IsGone
+variable_reached (cut.Below low) var old new answer does alters inside well_formed some = low_reached low (domain_at old.box var) (domain_at new.box var) answer does (domain_there var old new answer alters inside well_formed) some
+variable_reached (cut.Above high) var old new answer does alters inside well_formed some = high_reached high (domain_at old.box var) (domain_at new.box var) answer does (domain_there var old new answer alters inside well_formed) some
+variable_reached (cut.Fix value) var old new answer does alters inside well_formed some =
+    let ends = value_reached value (domain_at old.box var) (domain_at new.box var) answer does (domain_there var old new answer alters inside well_formed) some in
+    record { low = ends.0; high = ends.1 }
+variable_reached (cut.Drop value) var old new answer does alters inside well_formed some = λ looked. drop_reached value (domain_at old.box var) (domain_at new.box var) answer does some looked.has looked.bound
+
+-- ---- a constant, whose number stays or not
+pub constant_cuts : (stays : Bool) (Q : ℤ → Type 0) (z : ℤ) (s : Stored) (answer : Narrow) → (stays ≡ true) ↔ Q z → answer ≡ cond stays Same Empty → Cuts Q (term.Const z) s s answer
+constant_cuts stays Q z s answer keeps is = record {
+  within = λ k v has. has;
+  kept = λ θ lies q. lies;
+  elsewhere = λ k apart. refl;
+  count = refl;
+  stays = stays_refl s;
+  same = λ e. refl;
+  falls = λ e. absurd (unchanged stays answer is e);
+  empty = λ e. (refl, λ θ lies q. gone stays answer is e (keeps.1 q));
+}
+  where
+    unchanged : (t : Bool) (a : Narrow) → a ≡ cond t Same Empty → a ≡ Changed → ⊥
+    unchanged true a e f = let both : Same ≡ Changed = sym e ∙ f in absurd (cc)
+    unchanged false a e f = let both : Empty ≡ Changed = sym e ∙ f in absurd (cc)
+
+    gone : (t : Bool) (a : Narrow) → a ≡ cond t Same Empty → a ≡ Empty → t ≡ true → ⊥
+    gone true a e f g = let both : Same ≡ Empty = sym e ∙ f in absurd (cc)
+    gone false a e f g = false≢true g
+
+constant_stays : (stays : Bool) (answer : Narrow) → answer ≡ cond stays Same Empty → (answer ≡ Empty → ⊥) → stays ≡ true
+constant_stays true answer is some = refl
+constant_stays false answer is some = absurd (some is)
+
+pub constant_reached : (c : Cut) (stays : Bool) (z : ℤ) (box : List (List ℤ)) (answer : Narrow) → (stays ≡ true) ↔ kept_by c z → answer ≡ cond stays Same Empty → (answer ≡ Empty → ⊥) → reached_by c (term.Const z) box
+unfolding LowIs HighIs ValueIs IsGone
+constant_reached (cut.Below low) stays z box answer keeps is some = keeps.0 (constant_stays stays answer is some)
+constant_reached (cut.Above high) stays z box answer keeps is some = keeps.0 (constant_stays stays answer is some)
+constant_reached (cut.Fix value) stays z box answer keeps is some = let same = keeps.0 (constant_stays stays answer is some) in record { low = same; high = same }
+constant_reached (cut.Drop value) stays z box answer keeps is some = λ looked. keeps.0 (constant_stays stays answer is some) (sym looked.has)

@@ -5,9 +5,6 @@ pub mod Narrowing
 pub mod Cuts
 pub mod Strength
 pub mod Propagation
-pub mod Laws
 pub mod Passes
 pub mod Answers
-pub mod Made
-pub mod Opposites
 pub mod Steps

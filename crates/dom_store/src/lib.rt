@@ -7,8 +7,8 @@
 //! that its levels keep; and how often a narrowing changed a domain.
 //!
 //! What it promises: each narrowing does to the domain of its variable what `int_domain` says, and leaves all else.
-//! [`Store::pop_level`] gives back exactly the domains at the matching [`Store::push_level`]. [`raise`], [`cap`],
-//! [`settle`] and [`avoid`] narrow variables and constants alike (`specs/Cuts.antt`). A [`Propagator`] removes only
+//! [`Store::pop_level`] gives back exactly the domains at the matching [`Store::push_level`]. [`cut_below`], [`cut_above`],
+//! [`fix`] and [`drop_value`] narrow variables and constants alike, each as a step of a pass (`specs/Steps.antt`). A [`Propagator`] removes only
 //! values that no assignment of the box with its constraint has, and its answers have the causes of
 //! `specs/Propagation.antt`; what it leaves at `Kept` is, kind by kind, in `specs/Strength.antt`.
 //!
@@ -25,19 +25,17 @@ mod domain;
 mod domains;
 mod store;
 
-// Terms: variables and constants alike.
+// Terms, variables and constants alike: their bounds, and their narrowings as steps of a pass.
 mod terms;
 
-// What each propagator promises, how several passes make a run, and steps of a pass.
+// One pass over a constraint, how several make a run, and what each propagator promises.
 mod pass;
 mod propagator;
-mod steps;
 #[cfg(test)]
 mod tests;
 
 pub use int_domain::Narrow;
 pub use pass::{Pass, Passed, pass_on};
 pub use propagator::{Propagator, Ran};
-pub use steps::{cap_to, drop_one, raise_to};
-pub use store::Store;
-pub use terms::{avoid, can_have, cap, greatest, least, raise, settle};
+pub use store::{Store, recall_domains};
+pub use terms::{can_have, cut_above, cut_below, drop_value, fix, greatest, least};

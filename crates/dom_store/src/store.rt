@@ -1,4 +1,4 @@
-ghost use Rattle.std.specs.Prelude.{◌≡◌, ◌<◌, ◌≤◌, ◌↔◌, ◌∷◌, [], ℤ, int_le, length, drop, slice_index_or, IsNone, IfOk, IfSome, OnOk, OnErr};
+ghost use Rattle.std.specs.Prelude.{◌≡◌, ◌<◌, ◌≤◌, ◌↔◌, ◌∷◌, [], int_le, length, drop, slice_index_or, IsNone, IfOk, IfSome, OnOk, OnErr};
 ghost use Rattle.std.specs.Ordering.{int_eq};
 ghost use Rattle.int_domain.specs.Narrowing.{Narrows, DropsValue};
 ghost use Rattle.fzn_model.specs.Boxes.{IsBox, domain_at};
@@ -65,7 +65,7 @@ impl Store {
     pub(crate) fn as_slice(&self) -> &[Domain]
         ensures value { result.now ≡ self.now.box }
         ensures few { length self.now.box ≤ 100000 }
-        ensures sound { IsBox self.now.box }
+        ensures well_formed { IsBox self.now.box }
     {
         self.domains.as_slice()
     }
@@ -74,7 +74,7 @@ impl Store {
     pub fn count(&self) -> usize
         ensures value { result ≡ length self.now.box }
         ensures few { result ≤ 100000 }
-        ensures sound { IsBox self.now.box }
+        ensures well_formed { IsBox self.now.box }
     {
         self.as_slice().len()
     }
@@ -95,13 +95,13 @@ impl Store {
     }
 
     /// Narrows the domain of one variable, and counts the change.
-    fn narrow(&mut self, var: u32, cut: Cut) -> Narrow
+    pub(crate) fn narrow(&mut self, var: u32, cut: Cut) -> Narrow
         requires var { var < length self.old.box }
         ensures does { Does cut (domain_at self.old.box var) (domain_at self.new.box var) result }
         ensures others { AltersOnly var result self.old self.new }
         ensures falls { result ≡ Narrow.Changed → box_size self.new.box < box_size self.old.box }
         ensures rises { self.old.changes ≤ self.new.changes }
-        ensures sound { IsBox self.new.box }
+        ensures well_formed { IsBox self.new.box }
     {
         let answer = self.domains.narrow(var, cut);
         self.changes = count_change(self.changes, answer);
@@ -116,7 +116,7 @@ impl Store {
         ensures others { AltersOnly var result self.old self.new }
         ensures falls { result ≡ Narrow.Changed → box_size self.new.box < box_size self.old.box }
         ensures rises { self.old.changes ≤ self.new.changes }
-        ensures sound { IsBox self.new.box }
+        ensures well_formed { IsBox self.new.box }
     {
         self.narrow(var, Cut::Below(low))
     }
@@ -129,7 +129,7 @@ impl Store {
         ensures others { AltersOnly var result self.old self.new }
         ensures falls { result ≡ Narrow.Changed → box_size self.new.box < box_size self.old.box }
         ensures rises { self.old.changes ≤ self.new.changes }
-        ensures sound { IsBox self.new.box }
+        ensures well_formed { IsBox self.new.box }
     {
         self.narrow(var, Cut::Above(high))
     }
@@ -142,7 +142,7 @@ impl Store {
         ensures others { AltersOnly var result self.old self.new }
         ensures falls { result ≡ Narrow.Changed → box_size self.new.box < box_size self.old.box }
         ensures rises { self.old.changes ≤ self.new.changes }
-        ensures sound { IsBox self.new.box }
+        ensures well_formed { IsBox self.new.box }
     {
         self.narrow(var, Cut::Fix(value))
     }
@@ -156,7 +156,7 @@ impl Store {
         ensures others { AltersOnly var result self.old self.new }
         ensures falls { result ≡ Narrow.Changed → box_size self.new.box < box_size self.old.box }
         ensures rises { self.old.changes ≤ self.new.changes }
-        ensures sound { IsBox self.new.box }
+        ensures well_formed { IsBox self.new.box }
     {
         self.narrow(var, Cut::Drop(value))
     }
@@ -183,6 +183,14 @@ impl Store {
         };
         self.domains = domains;
     }
+}
+
+/// Does nothing; a caller learns that each domain is as in every store: not empty, rising, within the values of the
+/// language, and without a gap where it is wide.
+pub fn recall_domains(store: &Store)
+    ensures domains { IsBox store.now.box }
+{
+    let _domains = store.as_slice();
 }
 
 impl BoxView for Store {

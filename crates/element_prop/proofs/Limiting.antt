@@ -1,19 +1,21 @@
 -- A term that has to lie between two numbers.
-use Rattle.std.proofs.Common.{◌≡◌, List, length, ◌∙◌, arith}
+use Rattle.std.proofs.Common.{◌≡◌, List, length, arith}
 use Rattle.std.specs.Prelude.{ℤ, pos, ◌≤ℤ◌}
 use Rattle.std.proofs.lemmas.Int.{ints}
 use Rattle.fzn_model.specs.declared.term.Term.{Term}
 use Rattle.fzn_model.specs.declared.con.Con.TheVariants as con
-use Rattle.fzn_model.specs.Meaning.{val}
-use Rattle.fzn_model.specs.Kept.{TermIn}
+use Rattle.fzn_model.specs.Meaning.{val, Holds}
+use Rattle.fzn_model.specs.Limits.{TermIn}
 use Rattle.fzn_model.specs.Boxes.{IsBox}
-use Rattle.dom_store.specs.Answers.{Narrow, Empty}
+use Rattle.dom_store.specs.declared.pass.Passed.{Passed}
+use Rattle.dom_store.specs.declared.pass.Passed.TheVariants as passed
 use Rattle.dom_store.specs.Stores.{Stored}
 use Rattle.fzn_model.specs.Bounds.{term_low}
-use Rattle.dom_store.specs.Cuts.{Cuts}
-use Rattle.dom_store.specs.Propagation.{Runs}
-use Rattle.dom_store.specs.Laws.{loses_trans, none_before, cuts_lose, cuts_none, low_rises}
-use Rattle.element_prop.specs.Between.{LiesBetween, Limits, LiesNever, Bounded}
+use Rattle.dom_store.specs.Steps.{Reaches, Step, NarrowsTerm, IsAtLeast, IsAtMost, LowIs, HighIs}
+use Rattle.dom_store.specs.Narrowing.{Prunes}
+use Rattle.dom_store.proofs.Laws.{prunes_within, low_rises}
+use Rattle.dom_store.proofs.Stepping.{narrowed, step_end_after}
+use Rattle.element_prop.specs.Between.{LiesBetween, LiesNever, Bounded}
 use Rattle.element_prop.specs.Places.{IsImpossible}
 
 spared_low : (t : Term) (low high : ℤ) (θ : List ℤ) → LiesBetween t low high θ → low ≤ℤ val t θ
@@ -24,54 +26,29 @@ spared_high : (t : Term) (low high : ℤ) (θ : List ℤ) → LiesBetween t low 
 unfolding LiesBetween
 spared_high t low high θ lies = lies.1
 
-pub raised : (t : Term) (low high : ℤ) (old new : Stored) (answer : Narrow) → Cuts (λ z. low ≤ℤ z) t old new answer → Limits t low high old new
-raised t low high old new answer cuts = record {
-  loses = cuts_lose _ (LiesBetween t low high) t old new answer cuts (λ θ lies p. spared_low t low high θ p);
-  saved = cuts.saved;
-  changes = cuts.changes;
-}
+pub from_low : (t : Term) (low high : ℤ) (old new : Stored) (result : Passed) → NarrowsTerm (IsAtLeast low) (LowIs t low) t old new result → Step (LowIs t low) (LiesBetween t low high) old new result
+from_low t low high old new result narrows = narrowed (LiesBetween t low high) narrows (λ θ lies p. spared_low t low high θ p)
 
-pub capped : (t : Term) (low high : ℤ) (old new : Stored) (answer : Narrow) → Cuts (λ z. z ≤ℤ high) t old new answer → Limits t low high old new
-capped t low high old new answer cuts = record {
-  loses = cuts_lose _ (LiesBetween t low high) t old new answer cuts (λ θ lies p. spared_high t low high θ p);
-  saved = cuts.saved;
-  changes = cuts.changes;
-}
+pub to_high : (t : Term) (low high : ℤ) (old new : Stored) (result : Passed) → NarrowsTerm (IsAtMost high) (HighIs t high) t old new result → Step (HighIs t high) (LiesBetween t low high) old new result
+to_high t low high old new result narrows = narrowed (LiesBetween t low high) narrows (λ θ lies p. spared_high t low high θ p)
 
-pub both : (t : Term) (low high : ℤ) (old mid new : Stored) → Limits t low high old mid → Limits t low high mid new → Limits t low high old new
-both t low high old mid new first second = record {
-  loses = loses_trans _ old.box mid.box new.box first.loses second.loses;
-  saved = second.saved ∙ first.saved;
-  changes = omega (arith, first.changes, second.changes);
-}
+pub never : (P : List (List ℤ) → Type 0) (t : Term) (low high : ℤ) (old new : Stored) → Step P (LiesBetween t low high) old new passed.Empty → LiesNever old.box t low high
+unfolding LiesNever Reaches
+never P t low high old new step = step.reaches
 
-pub never_raised : (t : Term) (low high : ℤ) (old new : Stored) → Cuts (λ z. low ≤ℤ z) t old new Empty → LiesNever old.box t low high
-unfolding LiesNever
-never_raised t low high old new cuts = cuts_none _ (LiesBetween t low high) t old new cuts (λ θ lies p. spared_low t low high θ p)
-
-pub never_capped : (t : Term) (low high : ℤ) (old mid new : Stored) → Limits t low high old mid → Cuts (λ z. z ≤ℤ high) t mid new Empty → LiesNever old.box t low high
-unfolding LiesNever
-never_capped t low high old mid new first cuts = none_before (LiesBetween t low high) old.box mid.box first.loses (cuts_none _ (LiesBetween t low high) t mid new cuts (λ θ lies p. spared_high t low high θ p))
+pub never_after : (P R : List (List ℤ) → Type 0) (t : Term) (low high : ℤ) (old mid new : Stored) → Step P (LiesBetween t low high) old mid passed.Done → Step R (LiesBetween t low high) mid new passed.Empty → LiesNever old.box t low high
+never_after P R t low high old mid new first then = never R t low high old new (step_end_after P R R (LiesBetween t low high) old mid new first then)
 
 -- what was raised stays so
-pub low_stays : (t : Term) (low high : ℤ) (mid new : Stored) → IsBox mid.box → IsBox new.box → TermIn (length mid.box) t → Limits t low high mid new → low ≤ℤ term_low mid.box t → low ≤ℤ term_low new.box t
+pub low_stays : (t : Term) (low high : ℤ) (mid new : Stored) → IsBox mid.box → IsBox new.box → TermIn (length mid.box) t → Prunes (LiesBetween t low high) mid new → low ≤ℤ term_low mid.box t → low ≤ℤ term_low new.box t
 low_stays t low high mid new was is inside limits h =
     let rises = low_rises _ mid.box new.box t was is limits.loses inside in
     omega (arith, ints, rises, h)
 
 -- ---- for a constraint
-pub limits_run : (i : Term) (xs : List Term) (c t : Term) (low high : ℤ) (old new : Stored) → Bounded old.box i xs c t low high → Limits t low high old new → Runs (con.Element i xs c) old new
+pub limits_run : (i : Term) (xs : List Term) (c t : Term) (low high : ℤ) (old new : Stored) → Bounded old.box i xs c t low high → Prunes (LiesBetween t low high) old new → Prunes (Holds (con.Element i xs c)) old new
 unfolding Bounded
-limits_run i xs c t low high old new bounded limits = record {
-  loses = record {
-    count = limits.loses.count;
-    within = limits.loses.within;
-    kept = λ θ lies holds. limits.loses.kept θ lies (bounded θ lies holds);
-    falls = limits.loses.falls;
-  };
-  saved = limits.saved;
-  changes = limits.changes;
-}
+limits_run i xs c t low high old new bounded limits = prunes_within (LiesBetween t low high) (Holds (con.Element i xs c)) old new limits (λ θ lies holds. bounded θ lies holds)
 
 pub limits_none : (i : Term) (xs : List Term) (c t : Term) (low high : ℤ) (box : List (List ℤ)) → Bounded box i xs c t low high → LiesNever box t low high → IsImpossible box i xs c
 unfolding Bounded LiesNever IsImpossible

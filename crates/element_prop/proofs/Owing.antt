@@ -8,12 +8,11 @@ use Rattle.fzn_model.specs.declared.term.Term.TheVariants as term
 use Rattle.fzn_model.specs.declared.con.Con.TheVariants as con
 use Rattle.fzn_model.specs.Meaning.{Holds}
 use Rattle.dom_store.specs.Stores.{Stored}
-use Rattle.dom_store.specs.Narrowing.{HasNone}
+use Rattle.dom_store.specs.Narrowing.{HasNone, Prunes}
 use Rattle.fzn_model.specs.Bounds.{term_low, term_high, IsFixed, IsLookedAt}
 use Rattle.dom_store.specs.Strength.{HullsMeet, ElementIsStrong, IsChecked, IsOwed}
-use Rattle.fzn_model.specs.Terms.{has_low, has_between, fixed_val}
-use Rattle.dom_store.specs.Laws.{runs_still}
-use Rattle.dom_store.specs.Propagation.{Runs}
+use Rattle.fzn_model.proofs.Terms.{has_low, has_between, fixed_val}
+use Rattle.dom_store.proofs.Laws.{prunes_still}
 use Rattle.dom_store.specs.Passes.{Concludes}
 use Rattle.dom_store.specs.declared.pass.Passed.{Passed}
 use Rattle.dom_store.specs.declared.pass.Passed.TheVariants as passed
@@ -32,7 +31,7 @@ meets_at box i xs c k meets h at = subst (λ t. HullsMeet box t c) (get_or_defau
 
 index_meets : (box : List (List ℤ)) (i : Term) (xs : List Term) (c : Term) → IsReady box i xs c → IsIndexed box i (length xs) → MeetsBefore box i xs c (length xs) → (v : ℤ) → IsLookedAt box i v → (k : ℕ) × (v ≡ pos (k + 1)) × (k < length xs) × HullsMeet box (slice_index_or xs k c) c
 index_meets box i xs c ready indexed meets v at =
-    let between = has_between box i v ready.sound ready.index at.has in
+    let between = has_between box i v ready.well_formed ready.index at.has in
     let place = place_at v (length xs) (omega (arith, ints, between.0, indexed.low)) (omega (arith, ints, between.1, indexed.high)) in
     (place.0, place.1, place.2, meets_at box i xs c place.0 meets place.2 (subst (IsLookedAt box i) place.1 at))
 
@@ -52,12 +51,12 @@ unfolding IsChecked
 element_checked box i xs c ready strong all θ lies =
     let i_fixed : IsFixed box i = all 0 i (omega arith) in
     let c_fixed : IsFixed box c = all 1 c (omega arith) in
-    let looked : IsLookedAt box i (term_low box i) = record { has = has_low box i ready.sound ready.index; bound = λ wide. inl refl } in
+    let looked : IsLookedAt box i (term_low box i) = record { has = has_low box i ready.well_formed ready.index; bound = λ wide. inl refl } in
     let found = strong.index (term_low box i) looked in
     let x_fixed : IsFixed box (slice_index_or xs found.0 c) = all (suc (suc found.0)) c (omega (arith, found.2)) in
-    let i_value = fixed_val box i θ ready.sound ready.index i_fixed lies in
-    let c_value = fixed_val box c θ ready.sound ready.chosen c_fixed lies in
-    let x_value = fixed_val box (slice_index_or xs found.0 c) θ ready.sound (ready.members found.0 c found.2) x_fixed lies in
+    let i_value = fixed_val box i θ ready.well_formed ready.index i_fixed lies in
+    let c_value = fixed_val box c θ ready.well_formed ready.chosen c_fixed lies in
+    let x_value = fixed_val box (slice_index_or xs found.0 c) θ ready.well_formed (ready.members found.0 c found.2) x_fixed lies in
     let meets = found.3 in
     (found.0, found.2, i_value ∙ found.1, omega (arith, ints, c_value, x_value, meets.below, meets.above, c_fixed, x_fixed))
 
@@ -71,10 +70,10 @@ unfolding IsImpossible
 impossible_none box i xs c none = none
 
 -- a whole pass
-pub element_concludes : (i : Term) (xs : List Term) (c : Term) (old mid new : Stored) (answer : Passed) → Runs (con.Element i xs c) old mid → Runs (con.Element i xs c) mid new → IsReady mid.box i xs c → IsIndexed mid.box i (length xs)
+pub element_concludes : (i : Term) (xs : List Term) (c : Term) (old mid new : Stored) (answer : Passed) → Prunes (Holds (con.Element i xs c)) old mid → Prunes (Holds (con.Element i xs c)) mid new → IsReady mid.box i xs c → IsIndexed mid.box i (length xs)
     → (answer ≡ passed.Done → new.box ≡ mid.box → MeetsBefore mid.box i xs c (length xs)) → (answer ≡ passed.Done → new.box ≡ mid.box → IsWithin mid.box i xs c) → (answer ≡ passed.Empty → IsImpossible mid.box i xs c) → Concludes (con.Element i xs c) old.box new.box answer
 element_concludes i xs c old mid new passed.Done first second ready indexed meets within none = λ e.
-    let same : mid.box ≡ old.box = runs_still (con.Element i xs c) old mid new first second e in
+    let same : mid.box ≡ old.box = prunes_still (Holds (con.Element i xs c)) (Holds (con.Element i xs c)) old mid new first second e in
     let again : new.box ≡ mid.box = e ∙ sym same in
     subst (λ box. IsOwed box (con.Element i xs c)) (sym again) (element_owed mid.box i xs c ready indexed (meets refl again) (within refl again))
 element_concludes i xs c old mid new passed.Empty first second ready indexed meets within none =

@@ -1,21 +1,14 @@
 -- A term that has to lie between two numbers.
-use Rattle.std.specs.Prelude.{◌≡◌, ◌≤◌, List, ℤ, ◌≤ℤ◌}
+use Rattle.std.specs.Prelude.{List, ℤ, ◌≤ℤ◌}
 use Rattle.fzn_model.specs.declared.term.Term.{Term}
 use Rattle.fzn_model.specs.declared.con.Con.TheVariants as con
 use Rattle.fzn_model.specs.Meaning.{val, Holds}
 use Rattle.fzn_model.specs.Boxes.{InBox}
-use Rattle.dom_store.specs.Stores.{Stored}
-use Rattle.dom_store.specs.Narrowing.{Loses, HasNone}
+use Rattle.dom_store.specs.Narrowing.{HasNone}
 
 -- the value of the term lies between the numbers, or at one of them
 unfoldable pub LiesBetween : Term → ℤ → ℤ → List ℤ → Type 0
 LiesBetween t low high θ = (low ≤ℤ val t θ) × (val t θ ≤ℤ high)
-
--- only values go that don't; the levels stay
-pub record Limits (t : Term) (low high : ℤ) (old new : Stored) : Type 0 where
-  pub loses : Loses (LiesBetween t low high) old.box new.box
-  pub saved : new.saved ≡ old.saved
-  pub changes : old.changes ≤ new.changes
 
 -- no value of the term does
 unfoldable pub LiesNever : List (List ℤ) → Term → ℤ → ℤ → Type 0

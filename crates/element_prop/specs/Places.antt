@@ -4,7 +4,7 @@ use Rattle.fzn_model.specs.declared.term.Term.{Term}
 use Rattle.fzn_model.specs.declared.term.Term.TheVariants as term
 use Rattle.fzn_model.specs.declared.con.Con.TheVariants as con
 use Rattle.fzn_model.specs.Meaning.{Holds}
-use Rattle.fzn_model.specs.Kept.{TermIn}
+use Rattle.fzn_model.specs.Limits.{TermIn}
 use Rattle.fzn_model.specs.Boxes.{IsBox}
 use Rattle.fzn_model.specs.Bounds.{term_low, term_high, IsFixed, IsLookedAt}
 use Rattle.dom_store.specs.Strength.{HullsMeet, IsPlace}
@@ -16,7 +16,7 @@ member xs k = slice_index_or xs k (term.Const (pos 0))
 
 -- a box with the variables of the constraint
 pub record IsReady (box : List (List ℤ)) (i : Term) (xs : List Term) (c : Term) : Type 0 where
-  pub sound : IsBox box
+  pub well_formed : IsBox box
   pub index : TermIn (length box) i
   pub count : length xs ≤ 2000000
   pub members : All (TermIn (length box)) xs

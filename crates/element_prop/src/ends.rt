@@ -1,12 +1,13 @@
 //! The hull of the members that the index can have.
 ghost use Rattle.std.specs.Prelude.{◌≡◌, ◌≤◌, ◌≤ℤ◌, length, All, IsTrue, IsFalse};
 ghost use Rattle.fzn_model.specs.declared.con.Con.TheVariants as con;
-ghost use Rattle.fzn_model.specs.Kept.{TermIn};
+ghost use Rattle.fzn_model.specs.Limits.{TermIn};
 ghost use Rattle.fzn_model.specs.Boxes.{IsBox};
 ghost use Rattle.fzn_model.specs.Bounds.{term_low, term_high, IsFixed};
-ghost use Rattle.dom_store.specs.Propagation.{Runs};
+ghost use Rattle.dom_store.specs.Narrowing.{Prunes};
 ghost use Rattle.dom_store.specs.Strength.{IsPlace};
 ghost use Rattle.element_prop.specs.Places.{member, IsReady, IsIndexed, IsImpossible, IsLeastBefore, IsMostBefore, IsWithin, IsJoined};
+ghost use Rattle.fzn_model.specs.Meaning.{Holds};
 
 use crate::between::limit;
 use crate::index::{first_place, has_place, places_to};
@@ -55,7 +56,7 @@ fn higher(store: &Store, index: Term, members: &[Term], at: usize, place: usize)
 /// The places of the ends of the hull of all members that the index can have.
 #[tactic(auto, using(crate::proofs::Ending::least_to_first, crate::proofs::Ending::most_to_first, crate::proofs::Ending::least_all, crate::proofs::Ending::most_all, crate::proofs::Ending::least_pass, crate::proofs::Ending::most_pass, crate::proofs::Ending::least_more, crate::proofs::Ending::most_more))]
 fn ends_of(store: &Store, index: Term, members: &[Term]) -> Ends
-    requires sound { IsBox store.now.box }
+    requires well_formed { IsBox store.now.box }
     requires index { TermIn (length store.now.box) index }
     requires members { All (TermIn (length store.now.box)) members.now }
     requires count { length members.now ≤ 2000000 }
@@ -83,7 +84,7 @@ fn ends_of(store: &Store, index: Term, members: &[Term]) -> Ends
 fn bound_chosen(store: &mut Store, index: Term, members: &[Term], chosen: Term) -> Passed
     requires ready { IsReady store.old.box index members.now chosen }
     requires indexed { IsIndexed store.old.box index (length members.now) }
-    ensures runs { Runs (con.Element index members.now chosen) store.old store.new }
+    ensures prunes { Prunes (Holds (con.Element index members.now chosen)) store.old store.new }
     ensures within { result ≡ Passed.Done → store.new.box ≡ store.old.box → IsWithin store.old.box index members.now chosen }
     ensures none { result ≡ Passed.Empty → IsImpossible store.old.box index members.now chosen }
     ensures is { IsBox store.new.box }
@@ -104,11 +105,11 @@ fn is_open(store: &Store, term: Term) -> bool
 }
 
 /// Where the index is fixed, keeps the values of the member in its place within the hull of the chosen term.
-#[tactic(auto, using(crate::proofs::Passing::runs_same, crate::proofs::Ending::joined_open))]
+#[tactic(auto, using(dom_store::proofs::Laws::prunes_refl, crate::proofs::Ending::joined_open))]
 fn bound_member(store: &mut Store, index: Term, members: &[Term], chosen: Term) -> Passed
     requires ready { IsReady store.old.box index members.now chosen }
     requires indexed { IsIndexed store.old.box index (length members.now) }
-    ensures runs { Runs (con.Element index members.now chosen) store.old store.new }
+    ensures prunes { Prunes (Holds (con.Element index members.now chosen)) store.old store.new }
     ensures joined { result ≡ Passed.Done → store.new.box ≡ store.old.box → IsJoined store.old.box index members.now chosen }
     ensures none { result ≡ Passed.Empty → IsImpossible store.old.box index members.now chosen }
     ensures is { IsBox store.new.box }
@@ -123,11 +124,11 @@ fn bound_member(store: &mut Store, index: Term, members: &[Term], chosen: Term) 
 }
 
 /// Narrows the chosen term by the members, and the member of a fixed index by the chosen term.
-#[tactic(auto, using(crate::proofs::Passing::runs_more, crate::proofs::Passing::ready_on, crate::proofs::Passing::indexed_on, crate::proofs::Passing::none_at_first, crate::proofs::Passing::within_first, crate::proofs::Passing::joined_second))]
+#[tactic(auto, using(dom_store::proofs::Laws::prunes_trans, crate::proofs::Passing::ready_on, crate::proofs::Passing::indexed_on, crate::proofs::Passing::none_at_first, crate::proofs::Passing::within_first, crate::proofs::Passing::joined_second))]
 pub fn bound_terms(store: &mut Store, index: Term, members: &[Term], chosen: Term) -> Passed
     requires ready { IsReady store.old.box index members.now chosen }
     requires indexed { IsIndexed store.old.box index (length members.now) }
-    ensures runs { Runs (con.Element index members.now chosen) store.old store.new }
+    ensures prunes { Prunes (Holds (con.Element index members.now chosen)) store.old store.new }
     ensures within { result ≡ Passed.Done → store.new.box ≡ store.old.box → IsWithin store.old.box index members.now chosen }
     ensures joined { result ≡ Passed.Done → store.new.box ≡ store.old.box → IsJoined store.old.box index members.now chosen }
     ensures none { result ≡ Passed.Empty → IsImpossible store.old.box index members.now chosen }

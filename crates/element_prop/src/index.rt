@@ -1,12 +1,13 @@
 //! The index, and the places that it can have.
 ghost use Rattle.std.specs.Prelude.{◌≡◌, ◌↔◌, ◌≤◌, ◌≤ℤ◌, ◌+◌, pos, length, IsTrue};
 ghost use Rattle.fzn_model.specs.declared.con.Con.TheVariants as con;
-ghost use Rattle.fzn_model.specs.Kept.{TermIn};
+ghost use Rattle.fzn_model.specs.Limits.{TermIn};
 ghost use Rattle.fzn_model.specs.Boxes.{IsBox};
 ghost use Rattle.fzn_model.specs.Bounds.{term_low, term_high, TermHas};
-ghost use Rattle.dom_store.specs.Propagation.{Runs};
+ghost use Rattle.dom_store.specs.Narrowing.{Prunes};
 ghost use Rattle.dom_store.specs.Strength.{IsPlace};
 ghost use Rattle.element_prop.specs.Places.{IsReady, IsIndexed, IsImpossible};
+ghost use Rattle.fzn_model.specs.Meaning.{Holds};
 
 use crate::between::limit;
 use dom_store::{Passed, Store, can_have, greatest, least};
@@ -57,7 +58,7 @@ fn count_to(number: &i64) -> usize
 pub fn first_place(store: &Store, index: Term, members: &[Term]) -> usize
     requires index { TermIn (length store.now.box) index }
     requires indexed { IsIndexed store.now.box index (length members.now) }
-    requires sound { IsBox store.now.box }
+    requires well_formed { IsBox store.now.box }
     ensures value { pos (result + 1) ≡ term_low store.now.box index }
     ensures place { IsPlace store.now.box index members.now result }
 {
@@ -68,7 +69,7 @@ pub fn first_place(store: &Store, index: Term, members: &[Term]) -> usize
 pub fn places_to(store: &Store, index: Term, members: &[Term]) -> usize
     requires index { TermIn (length store.now.box) index }
     requires indexed { IsIndexed store.now.box index (length members.now) }
-    requires sound { IsBox store.now.box }
+    requires well_formed { IsBox store.now.box }
     ensures value { pos result ≡ term_high store.now.box index }
     ensures few { result ≤ length members.now }
 {
@@ -78,7 +79,7 @@ pub fn places_to(store: &Store, index: Term, members: &[Term]) -> usize
 /// Keeps the numbers of places.
 pub fn bound_index(store: &mut Store, index: Term, members: &[Term], chosen: Term) -> Passed
     requires { IsReady store.old.box index members.now chosen }
-    ensures runs { Runs (con.Element index members.now chosen) store.old store.new }
+    ensures prunes { Prunes (Holds (con.Element index members.now chosen)) store.old store.new }
     ensures indexed { result ≡ Passed.Done → IsIndexed store.new.box index (length members.now) }
     ensures none { result ≡ Passed.Empty → IsImpossible store.old.box index members.now chosen }
     ensures is { IsBox store.new.box }

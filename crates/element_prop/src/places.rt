@@ -1,17 +1,18 @@
 //! The values of the index whose members can't have the value of the chosen one.
-ghost use Rattle.std.specs.Prelude.{◌≡◌, ◌≢◌, ◌≤◌, ◌<◌, ◌≤ℤ◌, ◌<ℤ◌, ◌+◌, pos, length, IsTrue, IsFalse};
+ghost use Rattle.std.specs.Prelude.{◌≡◌, ◌≤◌, ◌<◌, ◌≤ℤ◌, ◌<ℤ◌, ◌+◌, pos, length, IsTrue, IsFalse};
 ghost use Rattle.fzn_model.specs.declared.con.Con.TheVariants as con;
-ghost use Rattle.fzn_model.specs.Kept.{TermIn};
+ghost use Rattle.fzn_model.specs.Limits.{TermIn};
 ghost use Rattle.fzn_model.specs.Boxes.{IsBox};
-ghost use Rattle.fzn_model.specs.Bounds.{term_low, term_high, IsLookedAt};
-ghost use Rattle.dom_store.specs.Cuts.{Cuts};
-ghost use Rattle.dom_store.specs.Propagation.{Runs};
+ghost use Rattle.fzn_model.specs.Bounds.{term_low, term_high};
+ghost use Rattle.dom_store.specs.Steps.{NarrowsTerm, IsNot, IsGone};
+ghost use Rattle.dom_store.specs.Narrowing.{Prunes};
 ghost use Rattle.dom_store.specs.Strength.{HullsMeet};
 ghost use Rattle.element_prop.specs.Places.{IsReady, IsIndexed, IsImpossible, AreApart, MeetsBefore};
 ghost use Rattle.element_prop.specs.Found.{IsFound, IsLastMet};
+ghost use Rattle.fzn_model.specs.Meaning.{Holds};
 
 use crate::index::{first_place, has_place, number_of, places_to};
-use dom_store::{Narrow, Passed, Store, avoid, greatest, least};
+use dom_store::{Passed, Store, drop_value, greatest, least};
 use fzn_model::Term;
 
 /// Whether the least value of a term is at most the greatest of another.
@@ -39,14 +40,13 @@ fn meet(store: &Store, member: Term, chosen: Term) -> bool
 }
 
 /// Drops the number of a place from the index.
-fn drop_place(store: &mut Store, index: Term, place: usize) -> Narrow
+fn drop_place(store: &mut Store, index: Term, place: usize) -> Passed
     requires index { TermIn (length store.old.box) index }
     requires place { place ≤ 2000000 }
-    ensures cuts { Cuts (λ z. z ≢ pos (place + 1)) index store.old store.new result }
-    ensures reached { (result ≡ Narrow.Empty → ⊥) → IsLookedAt store.new.box index (pos (place + 1)) → ⊥ }
-    ensures sound { IsBox store.new.box }
+    ensures narrows { NarrowsTerm (IsNot (pos (place + 1))) (IsGone index (pos (place + 1))) index store.old store.new result }
+    ensures reached { (result ≡ Passed.Empty → ⊥) → IsGone index (pos (place + 1)) store.new.box }
 {
-    avoid(store, index, number_of(place))
+    drop_value(store, index, &number_of(place))
 }
 
 /// What is found of a place.
@@ -61,7 +61,7 @@ enum Found {
 }
 
 /// Drops a place whose member can't have the value of the chosen one.
-#[tactic(auto, using(crate::proofs::Passing::runs_same, crate::proofs::Meeting::found_unhad, crate::proofs::Meeting::found_met, crate::proofs::Meeting::found_dropped, crate::proofs::Meeting::found_empty))]
+#[tactic(auto, using(dom_store::proofs::Laws::prunes_refl, crate::proofs::Meeting::found_unhad, crate::proofs::Meeting::found_met, crate::proofs::Meeting::found_dropped, crate::proofs::Meeting::found_empty))]
 fn check_place(
     store: &mut Store,
     index: Term,
@@ -71,7 +71,7 @@ fn check_place(
 ) -> Found
     requires ready { IsReady store.old.box index members.now chosen }
     requires place { place < length members.now }
-    ensures runs { Runs (con.Element index members.now chosen) store.old store.new }
+    ensures prunes { Prunes (Holds (con.Element index members.now chosen)) store.old store.new }
     ensures is_found { IsFound store.new.box index members.now chosen place result }
     ensures none { result ≡ Found.Empty → IsImpossible store.old.box index members.now chosen }
     ensures is { IsBox store.new.box }
@@ -83,18 +83,18 @@ fn check_place(
         return Found::Met;
     }
     match drop_place(store, index, place) {
-        Narrow::Empty => Found::Empty,
-        Narrow::Same | Narrow::Changed => Found::Gone,
+        Passed::Empty => Found::Empty,
+        Passed::Done => Found::Gone,
     }
 }
 
 /// Drops the last places whose members can't have the value of the chosen one, down to the first whose member can: of a
 /// wide domain only bounds can go, and so one after the other.
-#[tactic(auto, using(crate::proofs::Passing::runs_same, crate::proofs::Passing::runs_more, crate::proofs::Passing::ready_on, crate::proofs::Passing::none_at_first))]
+#[tactic(auto, using(dom_store::proofs::Laws::prunes_refl, dom_store::proofs::Laws::prunes_trans, crate::proofs::Passing::ready_on, crate::proofs::Passing::none_at_first))]
 fn drop_last(store: &mut Store, index: Term, members: &[Term], chosen: Term) -> Passed
     requires ready { IsReady store.old.box index members.now chosen }
     requires indexed { IsIndexed store.old.box index (length members.now) }
-    ensures runs { Runs (con.Element index members.now chosen) store.old store.new }
+    ensures prunes { Prunes (Holds (con.Element index members.now chosen)) store.old store.new }
     ensures met { result ≡ Passed.Done → IsLastMet store.new.box index members.now chosen }
     ensures none { result ≡ Passed.Empty → IsImpossible store.old.box index members.now chosen }
     ensures is { IsBox store.new.box }
@@ -113,11 +113,11 @@ fn drop_last(store: &mut Store, index: Term, members: &[Term], chosen: Term) -> 
 }
 
 /// Drops each place whose member can't have the value of the chosen one.
-#[tactic(auto, using(crate::proofs::Passing::runs_same, crate::proofs::Passing::runs_more, crate::proofs::Passing::ready_on, crate::proofs::Passing::none_at_first, crate::proofs::Meeting::meets_to_first, crate::proofs::Meeting::meets_all, crate::proofs::Passing::meets_again))]
+#[tactic(auto, using(dom_store::proofs::Laws::prunes_refl, dom_store::proofs::Laws::prunes_trans, crate::proofs::Passing::ready_on, crate::proofs::Passing::none_at_first, crate::proofs::Meeting::meets_to_first, crate::proofs::Meeting::meets_all, crate::proofs::Passing::meets_again))]
 fn check_places(store: &mut Store, index: Term, members: &[Term], chosen: Term) -> Passed
     requires ready { IsReady store.old.box index members.now chosen }
     requires indexed { IsIndexed store.old.box index (length members.now) }
-    ensures runs { Runs (con.Element index members.now chosen) store.old store.new }
+    ensures prunes { Prunes (Holds (con.Element index members.now chosen)) store.old store.new }
     ensures meets { result ≡ Passed.Done → store.new.box ≡ store.old.box → MeetsBefore store.old.box index members.now chosen (length members.now) }
     ensures none { result ≡ Passed.Empty → IsImpossible store.old.box index members.now chosen }
     ensures is { IsBox store.new.box }
@@ -133,11 +133,11 @@ fn check_places(store: &mut Store, index: Term, members: &[Term], chosen: Term) 
 }
 
 /// Drops the places whose members can't have the value of the chosen one.
-#[tactic(auto, using(crate::proofs::Passing::runs_more, crate::proofs::Passing::ready_on, crate::proofs::Passing::indexed_on, crate::proofs::Passing::none_at_first, crate::proofs::Passing::meets_second))]
+#[tactic(auto, using(dom_store::proofs::Laws::prunes_trans, crate::proofs::Passing::ready_on, crate::proofs::Passing::indexed_on, crate::proofs::Passing::none_at_first, crate::proofs::Passing::meets_second))]
 pub fn drop_places(store: &mut Store, index: Term, members: &[Term], chosen: Term) -> Passed
     requires ready { IsReady store.old.box index members.now chosen }
     requires indexed { IsIndexed store.old.box index (length members.now) }
-    ensures runs { Runs (con.Element index members.now chosen) store.old store.new }
+    ensures prunes { Prunes (Holds (con.Element index members.now chosen)) store.old store.new }
     ensures meets { result ≡ Passed.Done → store.new.box ≡ store.old.box → MeetsBefore store.old.box index members.now chosen (length members.now) }
     ensures none { result ≡ Passed.Empty → IsImpossible store.old.box index members.now chosen }
     ensures is { IsBox store.new.box }

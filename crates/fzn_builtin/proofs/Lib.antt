@@ -1,3 +1,4 @@
-pub mod Suiting
+pub mod ArgumentsRead
 pub mod Keeping
 pub mod Pairs
+pub mod Meanings

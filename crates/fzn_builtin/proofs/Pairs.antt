@@ -1,8 +1,10 @@
 -- That arguments fit, place by place, is that there are no more than places and each fits at its index.
-use Rattle.std.proofs.Common.{ℕ, zero, suc, ◌<◌, ◌≤◌, List, [], ◌∷◌, length, get_or, arith}
+use Rattle.std.proofs.Common.{◌≡◌, ℕ, zero, suc, ◌<◌, ◌≤◌, List, [], ◌∷◌, ◌++◌, length, get_or, Some, sym, subst, arith}
+use Rattle.std.specs.Prelude.{slice_get}
 use Rattle.fzn_builtin.specs.declared.needs.Need.{Need}
 use Rattle.fzn_builtin.specs.declared.arg.Arg.{Arg}
-use Rattle.fzn_builtin.specs.Args.{FitsNeed, FitEach, Fits}
+use Rattle.fzn_builtin.specs.Arguments.{FitsNeed, Fits}
+use Rattle.fzn_builtin.specs.Internals.{FitEach}
 
 pub fits_all : (needs : List Need) (args : List Arg) → length args ≤ length needs → FitEach needs args → Fits needs args
 unfolding FitEach
@@ -25,3 +27,10 @@ pub fits_count : (needs : List Need) (args : List Arg) → Fits needs args → l
 fits_count needs [] f = omega arith
 fits_count [] (a ∷ args) f = absurd f
 fits_count (n ∷ needs) (a ∷ args) f = omega (arith, fits_count needs args f.1)
+
+-- an argument more that fits the next need
+pub fits_push : (needs : List Need) (args : List Arg) (n : Need) (a : Arg) → Fits needs args → slice_get needs (length args) ≡ Some n → FitsNeed n a → Fits needs (args ++ a ∷ [])
+fits_push [] [] n a f e h = cc
+fits_push (m ∷ needs) [] n a f e h = (let e2 : m ≡ n = cc in let P : Need → Type 0 = λ (x : Need). FitsNeed x a in subst P (sym e2) h, tt)
+fits_push [] (b ∷ args) n a f e h = absurd f
+fits_push (m ∷ needs) (b ∷ args) n a f e h = (f.0, fits_push needs args n a f.1 e h)

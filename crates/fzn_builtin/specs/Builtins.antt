@@ -23,5 +23,5 @@ unfoldable pub shape_of : ℕ → Shape
 shape_of builtin = slice_index_or (map (λ row. row.3) TABLE) builtin shape.Xor
 
 -- so many arguments are a whole list: no fewer than the fewest, no more than there are places
-abbrev pub IsWhole : ℕ → ℕ → Type 0
-IsWhole builtin count = (least_of builtin ≤ count) × (count ≤ length (needs_of builtin))
+abbrev pub IsArgumentCount : ℕ → ℕ → Type 0
+IsArgumentCount builtin count = (least_of builtin ≤ count) × (count ≤ length (needs_of builtin))

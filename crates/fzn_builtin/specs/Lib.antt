@@ -1,5 +1,7 @@
 pub mod Builtins
-pub mod Args
-pub mod Made
-pub mod Suits
+pub mod Arguments
+pub mod Constraints
+pub mod Names
 pub mod Laws
+pub mod Limits
+pub mod Internals

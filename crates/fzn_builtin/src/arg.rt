@@ -1,6 +1,6 @@
 ghost use Rattle.std.specs.Prelude.{◌≡◌};
-ghost use Rattle.fzn_builtin.specs.Args.{number, term_at, truth_at, terms_at, truths_at, set_at, IsConst};
-ghost use Rattle.fzn_builtin.specs.Suits.{HasTerm, HasTruth, HasTerms, HasTruths, HasSet};
+ghost use Rattle.fzn_builtin.specs.Arguments.{number, term_at, terms_at, set_at, IsConst};
+ghost use Rattle.fzn_builtin.specs.Internals.{HasTerm, HasTerms, HasSet};
 
 use fzn_model::{List, Runs, Term};
 
@@ -26,7 +26,7 @@ pub(crate) fn number(term: Term) -> i64
 }
 
 /// The int or bool in the place.
-#[tactic(auto, unfolding(crate::specs::Args::term_at, crate::specs::Suits::HasTerm))]
+#[tactic(auto, unfolding(crate::specs::Arguments::term_at, crate::specs::Internals::HasTerm))]
 pub(crate) fn term_at(args: &[Arg], place: usize) -> Term
     requires { HasTerm args.now place }
     ensures { result ≡ term_at args.now place }
@@ -37,20 +37,8 @@ pub(crate) fn term_at(args: &[Arg], place: usize) -> Term
     }
 }
 
-/// The bool in the place.
-#[tactic(auto, unfolding(crate::specs::Args::truth_at, crate::specs::Suits::HasTruth))]
-pub(crate) fn truth_at(args: &[Arg], place: usize) -> Term
-    requires { HasTruth args.now place }
-    ensures { result ≡ truth_at args.now place }
-{
-    match &args[place] {
-        Arg::Bool(term) => *term,
-        Arg::Int(_) | Arg::Set(_) | Arg::Ints(_) | Arg::Bools(_) => unreachable!(),
-    }
-}
-
 /// The list of ints or bools in the place.
-#[tactic(auto, unfolding(crate::specs::Args::terms_at, crate::specs::Suits::HasTerms))]
+#[tactic(auto, unfolding(crate::specs::Arguments::terms_at, crate::specs::Internals::HasTerms))]
 pub(crate) fn terms_at(args: &[Arg], place: usize) -> &[Term]
     requires { HasTerms args.now place }
     ensures { result.now ≡ terms_at args.now place }
@@ -61,20 +49,8 @@ pub(crate) fn terms_at(args: &[Arg], place: usize) -> &[Term]
     }
 }
 
-/// The list of bools in the place.
-#[tactic(auto, unfolding(crate::specs::Args::truths_at, crate::specs::Suits::HasTruths))]
-pub(crate) fn truths_at(args: &[Arg], place: usize) -> &[Term]
-    requires { HasTruths args.now place }
-    ensures { result.now ≡ truths_at args.now place }
-{
-    match &args[place] {
-        Arg::Bools(terms) => terms.as_slice(),
-        Arg::Int(_) | Arg::Bool(_) | Arg::Set(_) | Arg::Ints(_) => unreachable!(),
-    }
-}
-
 /// The set in the place.
-#[tactic(auto, unfolding(crate::specs::Args::set_at, crate::specs::Suits::HasSet))]
+#[tactic(auto, unfolding(crate::specs::Arguments::set_at, crate::specs::Internals::HasSet))]
 pub(crate) fn set_at(args: &[Arg], place: usize) -> &Runs
     requires { HasSet args.now place }
     ensures { result.now ≡ set_at args.now place }

@@ -1,11 +1,12 @@
 ghost use Rattle.std.specs.Prelude.{◌≡◌, ◌↔◌, ℕ, List, ℤ, length, All, IfOk, Some};
-ghost use Rattle.fzn_model.specs.Kept.{ConKept, ConTruths, of_model};
-ghost use Rattle.fzn_builtin.specs.Args.{Fits, ArgKept, ArgTruth};
-ghost use Rattle.fzn_builtin.specs.Builtins.{needs_of, shape_of, IsWhole};
-ghost use Rattle.fzn_builtin.specs.Made.{related, count, differing, made, Made};
-ghost use Rattle.fzn_builtin.specs.Suits.{SuitsRelation, Suits};
+ghost use Rattle.fzn_model.specs.Limits.{ConInLimits, ConTruths, of_model};
+ghost use Rattle.fzn_builtin.specs.Arguments.{Fits};
+ghost use Rattle.fzn_builtin.specs.Limits.{ArgKept, ArgTruth};
+ghost use Rattle.fzn_builtin.specs.Builtins.{needs_of, shape_of, IsArgumentCount};
+ghost use Rattle.fzn_builtin.specs.Constraints.{relation_of, count, differing, constraint_of, Builds};
+ghost use Rattle.fzn_builtin.specs.Internals.{HasRelationArguments, HasArguments};
 
-use crate::arg::{Arg, number, set_at, term_at, terms_at, truth_at, truths_at};
+use crate::arg::{Arg, number, set_at, term_at, terms_at};
 use crate::builtin::{Builtin, shape};
 use crate::fault::BuildFault;
 use crate::linear::{balance, difference, sum};
@@ -16,9 +17,9 @@ use fzn_model::{Base, Con, Rel};
 use std::alloc::Global;
 
 /// The relation of the arguments.
-fn related(alloc: Global, relation: Relation, args: &[Arg]) -> Result<Base, BuildFault>
-    requires { SuitsRelation relation args.now }
-    ensures { Made result (related relation args.now) }
+fn relation_of(alloc: Global, relation: Relation, args: &[Arg]) -> Result<Base, BuildFault>
+    requires { HasRelationArguments relation args.now }
+    ensures { Builds result (relation_of relation args.now) }
 {
     match relation {
         Relation::Difference(rel) => {
@@ -29,7 +30,7 @@ fn related(alloc: Global, relation: Relation, args: &[Arg]) -> Result<Base, Buil
             let r = number(term_at(args, 2));
             sum(alloc, rel, terms_at(args, 0), terms_at(args, 1), r)
         }
-        Relation::Disjunction => clause(alloc, truths_at(args, 0), truths_at(args, 1)),
+        Relation::Disjunction => clause(alloc, terms_at(args, 0), terms_at(args, 1)),
         Relation::InSet => member(alloc, term_at(args, 0), set_at(args, 1)),
     }
 }
@@ -46,82 +47,82 @@ fn count(relation: Relation) -> usize
 
 /// The relation itself.
 fn posted(alloc: Global, relation: Relation, args: &[Arg]) -> Result<Con, BuildFault>
-    requires { SuitsRelation relation args.now }
-    ensures { Made result (made (Shape.Posted relation) args.now) }
+    requires { HasRelationArguments relation args.now }
+    ensures { Builds result (constraint_of (Shape.Posted relation) args.now) }
 {
-    let base = related(alloc, relation, args)?;
+    let base = relation_of(alloc, relation, args)?;
     Ok(Con::Base(base))
 }
 
 /// The relation holds exactly where the bool behind its arguments is true.
 fn reified(alloc: Global, relation: Relation, args: &[Arg]) -> Result<Con, BuildFault>
-    requires { Suits (Shape.Reified relation) args.now }
-    ensures { Made result (made (Shape.Reified relation) args.now) }
+    requires { HasArguments (Shape.Reified relation) args.now }
+    ensures { Builds result (constraint_of (Shape.Reified relation) args.now) }
 {
-    let base = related(alloc, relation, args)?;
-    let truth = truth_at(args, count(relation));
+    let base = relation_of(alloc, relation, args)?;
+    let truth = term_at(args, count(relation));
     Ok(Con::Reif(base, truth, true))
 }
 
 /// Two bools differ; where there is a third, exactly where it is true.
 fn differing(alloc: Global, args: &[Arg]) -> Result<Con, BuildFault>
-    requires { Suits Shape.Xor args.now }
-    ensures { Made result (Some (differing args.now)) }
+    requires { HasArguments Shape.Xor args.now }
+    ensures { Builds result (Some (differing args.now)) }
 {
-    let base = difference(alloc, Rel::Ne, truth_at(args, 0), truth_at(args, 1), 0)?;
+    let base = difference(alloc, Rel::Ne, term_at(args, 0), term_at(args, 1), 0)?;
     if args.len() == 2 {
         Ok(Con::Base(base))
     } else {
-        Ok(Con::Reif(base, truth_at(args, 2), true))
+        Ok(Con::Reif(base, term_at(args, 2), true))
     }
 }
 
 fn both_true(alloc: Global, args: &[Arg]) -> Result<Con, BuildFault>
-    requires { Suits Shape.BothTrue args.now }
-    ensures { Made result (made Shape.BothTrue args.now) }
+    requires { HasArguments Shape.BothTrue args.now }
+    ensures { Builds result (constraint_of Shape.BothTrue args.now) }
 {
-    let literals = [truth_at(args, 0), truth_at(args, 1)];
-    all_true(alloc, &literals, truth_at(args, 2))
+    let literals = [term_at(args, 0), term_at(args, 1)];
+    all_true(alloc, &literals, term_at(args, 2))
 }
 
 fn either_true(alloc: Global, args: &[Arg]) -> Result<Con, BuildFault>
-    requires { Suits Shape.EitherTrue args.now }
-    ensures { Made result (made Shape.EitherTrue args.now) }
+    requires { HasArguments Shape.EitherTrue args.now }
+    ensures { Builds result (constraint_of Shape.EitherTrue args.now) }
 {
-    let literals = [truth_at(args, 0), truth_at(args, 1)];
-    any_true(alloc, &literals, truth_at(args, 2))
+    let literals = [term_at(args, 0), term_at(args, 1)];
+    any_true(alloc, &literals, term_at(args, 2))
 }
 
 fn plus(alloc: Global, args: &[Arg]) -> Result<Con, BuildFault>
-    requires { Suits Shape.Plus args.now }
-    ensures { Made result (made Shape.Plus args.now) }
+    requires { HasArguments Shape.Plus args.now }
+    ensures { Builds result (constraint_of Shape.Plus args.now) }
 {
     let base = balance(alloc, term_at(args, 0), term_at(args, 1), term_at(args, 2))?;
     Ok(Con::Base(base))
 }
 
-#[tactic(auto, unfolding(crate::specs::Made::greatest))]
+#[tactic(auto, unfolding(crate::specs::Constraints::greatest))]
 fn larger(alloc: Global, args: &[Arg]) -> Result<Con, BuildFault>
-    requires { Suits Shape.Larger args.now }
-    ensures { Made result (made Shape.Larger args.now) }
+    requires { HasArguments Shape.Larger args.now }
+    ensures { Builds result (constraint_of Shape.Larger args.now) }
 {
     let terms = [term_at(args, 0), term_at(args, 1)];
     greatest(alloc, term_at(args, 2), &terms)
 }
 
-#[tactic(auto, unfolding(crate::specs::Made::least))]
+#[tactic(auto, unfolding(crate::specs::Constraints::least))]
 fn smaller(alloc: Global, args: &[Arg]) -> Result<Con, BuildFault>
-    requires { Suits Shape.Smaller args.now }
-    ensures { Made result (made Shape.Smaller args.now) }
+    requires { HasArguments Shape.Smaller args.now }
+    ensures { Builds result (constraint_of Shape.Smaller args.now) }
 {
     let terms = [term_at(args, 0), term_at(args, 1)];
     least(alloc, term_at(args, 2), &terms)
 }
 
 /// The constraint of the shape.
-fn con_of(alloc: Global, shape: Shape, args: &[Arg]) -> Result<Con, BuildFault>
-    requires { Suits shape args.now }
-    ensures { Made result (made shape args.now) }
+fn constraint_of(alloc: Global, shape: Shape, args: &[Arg]) -> Result<Con, BuildFault>
+    requires { HasArguments shape args.now }
+    ensures { Builds result (constraint_of shape args.now) }
 {
     match shape {
         Shape::Posted(relation) => posted(alloc, relation, args),
@@ -129,8 +130,8 @@ fn con_of(alloc: Global, shape: Shape, args: &[Arg]) -> Result<Con, BuildFault>
         Shape::Xor => differing(alloc, args),
         Shape::BothTrue => both_true(alloc, args),
         Shape::EitherTrue => either_true(alloc, args),
-        Shape::AllTrue => all_true(alloc, truths_at(args, 0), truth_at(args, 1)),
-        Shape::AnyTrue => any_true(alloc, truths_at(args, 0), truth_at(args, 1)),
+        Shape::AllTrue => all_true(alloc, terms_at(args, 0), term_at(args, 1)),
+        Shape::AnyTrue => any_true(alloc, terms_at(args, 0), term_at(args, 1)),
         Shape::Plus => plus(alloc, args),
         Shape::Times => Ok(Con::Times(term_at(args, 0), term_at(args, 1), term_at(args, 2))),
         Shape::Quotient => Ok(Con::Div(term_at(args, 0), term_at(args, 1), term_at(args, 2))),
@@ -163,10 +164,10 @@ fn con_of(alloc: Global, shape: Shape, args: &[Arg]) -> Result<Con, BuildFault>
 /// `NoMemory` comes where a list couldn't be copied.
 pub fn build(alloc: Global, builtin: Builtin, args: &[Arg]) -> Result<Con, BuildFault>
     requires fit { Fits (needs_of builtin) args.now }
-    requires whole { IsWhole builtin (length args.now) }
-    ensures made { Made result (made (shape_of builtin) args.now) }
-    ensures kept { IfOk result (λ con. (n : ℕ) → All (ArgKept n) args.now → ConKept of_model n con) }
+    requires whole { IsArgumentCount builtin (length args.now) }
+    ensures value { Builds result (constraint_of (shape_of builtin) args.now) }
+    ensures kept { IfOk result (λ con. (n : ℕ) → All (ArgKept n) args.now → ConInLimits of_model n con) }
     ensures truths { IfOk result (λ con. (ds : List (List (ℤ × ℤ))) → All (ArgTruth ds) args.now → ConTruths ds con) }
 {
-    con_of(alloc, shape(builtin), args)
+    constraint_of(alloc, shape(builtin), args)
 }

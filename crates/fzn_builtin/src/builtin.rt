@@ -1,6 +1,6 @@
 ghost use Rattle.std.specs.Prelude.{[], ◌≡◌, ◌↔◌, ◌<◌, IsTrue, IfSome, length, map, position, slice_get, slice_index, slice_index_or};
 ghost use Rattle.std.specs.Str.{bytes_eq};
-ghost use Rattle.fzn_builtin.specs.Builtins.{numbered, needs_of, shape_of, IsWhole};
+ghost use Rattle.fzn_builtin.specs.Builtins.{numbered, needs_of, shape_of, IsArgumentCount};
 
 use crate::needs::Need;
 use crate::shape::Shape;
@@ -85,8 +85,8 @@ pub(crate) fn shape(builtin: Builtin) -> Shape
 
 /// Whether so many arguments are a whole list.
 #[tactic(auto, unfolding(crate::specs::Builtins::least_of))]
-pub(crate) fn is_whole(builtin: Builtin, count: usize) -> bool
-    ensures { IsTrue result ↔ IsWhole builtin count }
+pub(crate) fn is_argument_count(builtin: Builtin, count: usize) -> bool
+    ensures { IsTrue result ↔ IsArgumentCount builtin count }
 {
     least_in(&TABLE, builtin.number) <= count && count <= needs(builtin).len()
 }
@@ -100,7 +100,7 @@ pub fn need(builtin: Builtin, place: u32) -> Option<Need>
 
 /// Whether so many arguments are a whole list. Takes no memory.
 pub fn may_end(builtin: Builtin, count: u32) -> bool
-    ensures { IsTrue result ↔ IsWhole builtin count }
+    ensures { IsTrue result ↔ IsArgumentCount builtin count }
 {
-    is_whole(builtin, count as usize)
+    is_argument_count(builtin, count as usize)
 }

@@ -1,9 +1,10 @@
 ghost use Rattle.std.specs.Prelude.{◌↔◌, ◌≤◌, IsTrue, All, length};
-ghost use Rattle.fzn_builtin.specs.Args.{IsConst, FitsNeed, FitEach, Fits};
-ghost use Rattle.fzn_builtin.specs.Builtins.{needs_of, IsWhole};
+ghost use Rattle.fzn_builtin.specs.Arguments.{IsConst, FitsNeed, Fits};
+ghost use Rattle.fzn_builtin.specs.Internals.{FitEach};
+ghost use Rattle.fzn_builtin.specs.Builtins.{needs_of, IsArgumentCount};
 
 use crate::arg::Arg;
-use crate::builtin::{Builtin, is_whole, needs};
+use crate::builtin::{Builtin, is_argument_count, needs};
 use crate::needs::Need;
 use fzn_model::Term;
 
@@ -23,7 +24,7 @@ fn are_const(terms: &[Term]) -> bool
 }
 
 /// Whether the argument is what is needed.
-#[tactic(auto, unfolding(crate::specs::Args::FitsNeed))]
+#[tactic(auto, unfolding(crate::specs::Arguments::FitsNeed))]
 fn fits_need(need: Need, arg: &Arg) -> bool
     ensures { IsTrue result ↔ FitsNeed need arg.now }
 {
@@ -40,7 +41,7 @@ fn fits_need(need: Need, arg: &Arg) -> bool
     }
 }
 
-#[tactic(auto, unfolding(crate::specs::Args::FitEach))]
+#[tactic(auto, unfolding(crate::specs::Internals::FitEach))]
 fn fit_each(needs: &[Need], args: &[Arg]) -> bool
     requires { length args.now ≤ length needs.now }
     ensures { IsTrue result ↔ FitEach needs.now args.now }
@@ -60,7 +61,7 @@ fn all_fit(needs: &[Need], args: &[Arg]) -> bool
 
 /// Whether the arguments fit and are a whole list: the condition of [`build`](crate::build). Takes no memory.
 pub fn fits(builtin: Builtin, args: &[Arg]) -> bool
-    ensures { IsTrue result ↔ (Fits (needs_of builtin) args.now × IsWhole builtin (length args.now)) }
+    ensures { IsTrue result ↔ (Fits (needs_of builtin) args.now × IsArgumentCount builtin (length args.now)) }
 {
-    all_fit(needs(builtin), args) && is_whole(builtin, args.len())
+    all_fit(needs(builtin), args) && is_argument_count(builtin, args.len())
 }

@@ -1,4 +1,10 @@
 ghost use Rattle.fzn_builtin.specs.Laws.{AreReified, AreSynonyms, reified_names, global_names};
+ghost use Rattle.fzn_builtin.specs.Names.{NamesMean};
+
+/// A law of the table: what each name says of its arguments, and which lengths of lists it refuses.
+pub fn names_mean()
+    ensures { NamesMean }
+{}
 
 /// A law of the table: behind the name of each relation that can be reified, `_reif` makes a name with the same
 /// arguments and a bool behind them, exactly where which is true the relation holds.

@@ -5,12 +5,14 @@
 //!
 //! What contracts see: a [`Builtin`] as its number, which is below the number of names; arguments, needs and shapes as
 //! they are written. The names stand once, as data, in [`TABLE`] (`src/table.rt`), which contracts cite: one line a
-//! name, with its needs and the [`Shape`] of its constraint. What each shape makes of its arguments is `made` in
-//! `specs/Made.antt`, one case a shape.
+//! name, with its needs and the [`Shape`] of its constraint. What each shape makes of its arguments is `constraint_of` in
+//! `specs/Constraints.antt`, one case a shape.
 //!
 //! What it promises: [`find`] gives the number of exactly the names of the table, [`need`] and [`may_end`] say what the
 //! table says, and [`build`] gives the constraint of the row, or refuses exactly the lengths that the row refuses. A
-//! constraint that is built keeps the limits of a model where its arguments do.
+//! constraint that is built keeps the limits of a model where its arguments do. Beside the table stands a law,
+//! [`names_mean`]: what each name says of its arguments, in the words of the standard, a line a name
+//! (`specs/Names.antt`).
 //!
 //! What it stands on: `fzn_model`, whose constraints it builds.
 #![tactic(auto)]
@@ -39,10 +41,7 @@ pub use building::build;
 pub use builtin::{Builtin, find, may_end, need};
 pub use fault::BuildFault;
 pub use fitting::fits;
-pub use laws::{global_names_match, reified_names_match};
+pub use laws::{global_names_match, names_mean, reified_names_match};
 pub use needs::Need;
 pub use shape::{Relation, Shape};
 pub use table::{ROWS, Row, TABLE};
-
-#[cfg(test)]
-mod tests;

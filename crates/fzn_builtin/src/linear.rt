@@ -1,7 +1,7 @@
 ghost use Rattle.std.specs.Prelude.{◌≡◌, Some, IfOk, All, map, pos};
 ghost use Rattle.std.specs.List.{zip};
-ghost use Rattle.fzn_builtin.specs.Args.{IsConst};
-ghost use Rattle.fzn_builtin.specs.Made.{linear, difference, balance, weighed, sum, Made};
+ghost use Rattle.fzn_builtin.specs.Arguments.{IsConst};
+ghost use Rattle.fzn_builtin.specs.Constraints.{linear, difference, balance, weighed, sum, Builds};
 
 use crate::arg::number;
 use crate::fault::BuildFault;
@@ -9,7 +9,7 @@ use fzn_model::{Base, Lin, List, Rel, Term};
 use std::alloc::{AllocError, Global};
 
 /// `a - b` against `r`.
-#[tactic(auto, unfolding(crate::specs::Made::linear))]
+#[tactic(auto, unfolding(crate::specs::Constraints::linear))]
 pub(crate) fn difference(
     alloc: Global,
     rel: Rel,
@@ -17,7 +17,7 @@ pub(crate) fn difference(
     b: Term,
     r: i128,
 ) -> Result<Base, BuildFault>
-    ensures { Made result (Some (linear rel (difference a b) r)) }
+    ensures { Builds result (Some (linear rel (difference a b) r)) }
 {
     let mut terms = List::new(alloc);
     terms.push((1, a))?;
@@ -26,9 +26,9 @@ pub(crate) fn difference(
 }
 
 /// `a + b - c` is 0.
-#[tactic(auto, unfolding(crate::specs::Made::linear))]
+#[tactic(auto, unfolding(crate::specs::Constraints::linear))]
 pub(crate) fn balance(alloc: Global, a: Term, b: Term, c: Term) -> Result<Base, BuildFault>
-    ensures { Made result (Some (linear Rel.Eq (balance a b c) (pos 0))) }
+    ensures { Builds result (Some (linear Rel.Eq (balance a b c) (pos 0))) }
 {
     let mut terms = List::new(alloc);
     terms.push((1, a))?;
@@ -54,7 +54,7 @@ fn weighed(alloc: Global, factors: &[Term], terms: &[Term]) -> Result<Vec<(i64, 
 }
 
 /// The sum of coefficient times term, against `r`.
-#[tactic(auto, unfolding(crate::specs::Made::sum, crate::specs::Made::linear))]
+#[tactic(auto, unfolding(crate::specs::Constraints::sum, crate::specs::Constraints::linear))]
 pub(crate) fn sum(
     alloc: Global,
     rel: Rel,
@@ -63,7 +63,7 @@ pub(crate) fn sum(
     r: i64,
 ) -> Result<Base, BuildFault>
     requires { All IsConst factors.now }
-    ensures { Made result (sum rel factors.now terms.now r) }
+    ensures { Builds result (sum rel factors.now terms.now r) }
 {
     if factors.len() != terms.len() {
         return Err(BuildFault::Lengths);

@@ -1,8 +1,8 @@
 ghost use Rattle.std.specs.Prelude.{◌≡◌, [], ◌∷◌, Some, IfOk, All, map};
 ghost use Rattle.std.specs.List.{zip};
 ghost use Rattle.fzn_model.specs.declared.con.Con.TheVariants as con;
-ghost use Rattle.fzn_builtin.specs.Args.{number, IsConst};
-ghost use Rattle.fzn_builtin.specs.Made.{greatest, least, task, cumulative, rows, Made};
+ghost use Rattle.fzn_builtin.specs.Arguments.{number, IsConst};
+ghost use Rattle.fzn_builtin.specs.Constraints.{greatest, least, task, cumulative, rows, Builds};
 
 use crate::arg::number;
 use crate::copies::copied;
@@ -11,9 +11,9 @@ use fzn_model::{Con, CumTask, List, Term};
 use std::alloc::{AllocError, Global};
 
 /// `m` is the greatest of the terms.
-#[tactic(auto, unfolding(crate::specs::Made::greatest))]
+#[tactic(auto, unfolding(crate::specs::Constraints::greatest))]
 pub(crate) fn greatest(alloc: Global, m: Term, terms: &[Term]) -> Result<Con, BuildFault>
-    ensures { Made result (greatest m terms.now) }
+    ensures { Builds result (greatest m terms.now) }
 {
     match terms {
         [] => Err(BuildFault::Lengths),
@@ -22,9 +22,9 @@ pub(crate) fn greatest(alloc: Global, m: Term, terms: &[Term]) -> Result<Con, Bu
 }
 
 /// `m` is the least of the terms.
-#[tactic(auto, unfolding(crate::specs::Made::least))]
+#[tactic(auto, unfolding(crate::specs::Constraints::least))]
 pub(crate) fn least(alloc: Global, m: Term, terms: &[Term]) -> Result<Con, BuildFault>
-    ensures { Made result (least m terms.now) }
+    ensures { Builds result (least m terms.now) }
 {
     match terms {
         [] => Err(BuildFault::Lengths),
@@ -39,7 +39,7 @@ pub(crate) fn element(
     terms: &[Term],
     c: Term,
 ) -> Result<Con, BuildFault>
-    ensures { Made result (Some (con.Element index terms.now c)) }
+    ensures { Builds result (Some (con.Element index terms.now c)) }
 {
     let terms = copied(alloc, terms)?;
     Ok(Con::Element(index, terms, c))
@@ -47,7 +47,7 @@ pub(crate) fn element(
 
 /// The terms differ in pairs.
 pub(crate) fn different(alloc: Global, terms: &[Term]) -> Result<Con, BuildFault>
-    ensures { Made result (Some (con.AllDiffExcept terms.now [])) }
+    ensures { Builds result (Some (con.AllDiffExcept terms.now [])) }
 {
     let terms = copied(alloc, terms)?;
     Ok(Con::AllDiffExcept(terms, List::new(alloc)))
@@ -75,7 +75,7 @@ fn tasks(
 }
 
 /// Tasks share a capacity.
-#[tactic(auto, unfolding(crate::specs::Made::cumulative))]
+#[tactic(auto, unfolding(crate::specs::Constraints::cumulative))]
 pub(crate) fn cumulative(
     alloc: Global,
     starts: &[Term],
@@ -83,7 +83,7 @@ pub(crate) fn cumulative(
     uses: &[Term],
     capacity: Term,
 ) -> Result<Con, BuildFault>
-    ensures { Made result (cumulative starts.now lengths.now uses.now capacity) }
+    ensures { Builds result (cumulative starts.now lengths.now uses.now capacity) }
 {
     if starts.len() != lengths.len() || starts.len() != uses.len() {
         return Err(BuildFault::Lengths);
@@ -104,10 +104,10 @@ fn numbers(alloc: Global, constants: &[Term]) -> Result<Vec<i64>, AllocError>
 }
 
 /// The terms are one of the rows, which stand one after the other.
-#[tactic(auto, unfolding(crate::specs::Made::rows))]
+#[tactic(auto, unfolding(crate::specs::Constraints::rows))]
 pub(crate) fn rows(alloc: Global, terms: &[Term], constants: &[Term]) -> Result<Con, BuildFault>
     requires { All IsConst constants.now }
-    ensures { Made result (rows terms.now constants.now) }
+    ensures { Builds result (rows terms.now constants.now) }
 {
     match terms {
         [] => return Err(BuildFault::Lengths),

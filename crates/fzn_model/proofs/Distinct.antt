@@ -2,7 +2,7 @@
 use Rattle.std.proofs.Common.{◌≡◌, ℕ, ◌+◌, ◌<◌, List, length, get_or, take, ap, arith, ◌∙◌, sym, ℤ, below_more, length-take, subst}
 use Rattle.std.proofs.lemmas.List.{get_or-take, get_or_default}
 use Rattle.fzn_model.specs.Meaning.{val, HasValue, AreDistinct}
-use Rattle.fzn_model.specs.Kept.{TermIn, TermsIn}
+use Rattle.fzn_model.specs.Limits.{TermIn, TermsIn}
 use Rattle.fzn_model.specs.declared.term.Term.{Term}
 
 -- the values of the first i terms differ in pairs

@@ -4,3 +4,10 @@ pub mod Moments
 pub mod Wider
 pub mod Tops
 pub mod Reaching
+pub mod Domains
+pub mod Terms
+pub mod Solutions
+pub mod Opposites
+pub mod Grouping
+pub mod Products
+pub mod LinearBounds

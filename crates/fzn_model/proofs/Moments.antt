@@ -6,7 +6,7 @@ use Rattle.std.proofs.lemmas.Int.{ints, by_lt_z}
 use Rattle.std.proofs.lemmas.List.Elements.{recursion_from_All, All-from_recursion}
 use Rattle.fzn_model.specs.Meaning.{val, amount_at, usage, FitsAlways, AreTasks}
 use Rattle.fzn_model.specs.Starts.{StartsFit, TaskStartsFit}
-use Rattle.fzn_model.specs.Kept.{UsedKept, of_call}
+use Rattle.fzn_model.specs.Limits.{UsedInLimits, of_call}
 use Rattle.fzn_model.specs.declared.cumulative.Used.{Used}
 use Rattle.fzn_model.specs.declared.cumulative.CumTask.{CumTask}
 
@@ -125,13 +125,13 @@ each_map P f [] h = tt
 each_map P f (x ∷ xs) h = (h.0, each_map P f xs h.1)
 
 -- neither what is used nor what tasks use is negative
-none_negative : (us : List Used) (ks : List CumTask) (θ : List ℤ) → UsedKept of_call us → AreTasks ks θ → NotNegative (us ++ map (usage θ) ks)
+none_negative : (us : List Used) (ks : List CumTask) (θ : List ℤ) → UsedInLimits of_call us → AreTasks ks θ → NotNegative (us ++ map (usage θ) ks)
 unfolding AreTasks
 none_negative us ks θ k h = each_append _ us _ (recursion_from_All (λ u. pos 0 ≤ℤ u.amount) us (λ i d p. (k.amounts i d p).0))
     (each_map (λ u. pos 0 ≤ℤ u.amount) (usage θ) ks (recursion_from_All (λ k. pos 0 ≤ℤ val k.r θ) ks (λ i d p. (h i d p).1)))
 
 -- what fits at each start fits at all moments
-pub starts_enough : (us : List Used) (ks : List CumTask) (θ : List ℤ) (b : ℤ) → UsedKept of_call us → AreTasks ks θ → pos 0 ≤ℤ b → StartsFit (us ++ map (usage θ) ks) us b → TaskStartsFit (us ++ map (usage θ) ks) ks θ b → FitsAlways (us ++ map (usage θ) ks) b
+pub starts_enough : (us : List Used) (ks : List CumTask) (θ : List ℤ) (b : ℤ) → UsedInLimits of_call us → AreTasks ks θ → pos 0 ≤ℤ b → StartsFit (us ++ map (usage θ) ks) us b → TaskStartsFit (us ++ map (usage θ) ks) ks θ b → FitsAlways (us ++ map (usage θ) ks) b
 unfolding StartsFit TaskStartsFit
 starts_enough us ks θ b k h z f g =
     let all : List Used = us ++ map (usage θ) ks in
@@ -149,7 +149,7 @@ unfolding TaskStartsFit FitsAlways
 fits_task_starts all ks θ b f i d h = f _
 
 -- where all fits, the limit isn't negative
-pub fits_limit : (us : List Used) (ks : List CumTask) (θ : List ℤ) (b : ℤ) → UsedKept of_call us → AreTasks ks θ → FitsAlways (us ++ map (usage θ) ks) b → pos 0 ≤ℤ b
+pub fits_limit : (us : List Used) (ks : List CumTask) (θ : List ℤ) (b : ℤ) → UsedInLimits of_call us → AreTasks ks θ → FitsAlways (us ++ map (usage θ) ks) b → pos 0 ≤ℤ b
 unfolding FitsAlways
 fits_limit us ks θ b k h f = let p = amount_not_negative (us ++ map (usage θ) ks) (pos 0) (none_negative us ks θ k h) in let q = f (pos 0) in omega (arith, ints)
 

@@ -1,6 +1,7 @@
 -- The runs of a set in order, and the first that ends at a number or above it.
-use Rattle.std.proofs.Common.{◌≡◌, ℕ, suc, zero, ◌+◌, ◌<◌, ◌≤◌, List, [], ◌∷◌, length, get_or, sym, subst, arith, below_more, ℤ, pos, ◌+ℤ◌, ◌≤ℤ◌, ◌<ℤ◌, ◌∙◌}
+use Rattle.std.proofs.Common.{◌≡◌, ℕ, suc, zero, ◌+◌, ◌<◌, ◌≤◌, List, [], ◌∷◌, length, get_or, sym, subst, arith, below_more, inl, inr, ℤ, pos, ◌+ℤ◌, ◌≤ℤ◌, ◌<ℤ◌, ◌∙◌}
 use Rattle.std.proofs.lemmas.Int.{ints, by_lt_z}
+use Rattle.std.proofs.lemmas.Bool.{cases_lt}
 use Rattle.std.proofs.lemmas.List.{get_or_default}
 use Rattle.fzn_model.specs.Sets.{IsIn, IsWithin, AreAbove, AreRuns}
 use Rattle.fzn_model.specs.Reached.{IsFirstReaching}
@@ -33,6 +34,19 @@ gap (r ∷ rs) (suc j) (suc k) d e a le h = above_gap r.1 rs j k d e a.1 (omega 
 -- the ends rise
 pub ends_rise : (runs : List (ℤ × ℤ)) (j k : ℕ) (d e : ℤ × ℤ) → AreRuns runs → j < k → k < length runs → (get_or runs j d).1 <ℤ (get_or runs k e).1
 ends_rise runs j k d e a le h = let p = gap runs j k d e a le h in let q = run_ends runs k e a h in omega (arith, ints, p, q)
+
+-- both ends of a run are at most those of a later one
+pub both_rise : (runs : List (ℤ × ℤ)) (i j : ℕ) (d : ℤ × ℤ) → AreRuns runs → i ≤ j → j < length runs → ((get_or runs i d).0 ≤ℤ (get_or runs j d).0) × ((get_or runs i d).1 ≤ℤ (get_or runs j d).1)
+both_rise runs i j d a le h = elim (cases_lt i j) [
+  | inl before ↦
+      let apart = gap runs i j d d a before h in
+      let first = run_ends runs i d a (omega arith) in
+      let then = run_ends runs j d a h in
+      (omega (arith, ints, apart, first, then), omega (arith, ints, apart, first, then))
+  | inr after ↦
+      let same : i ≡ j = omega arith in
+      subst (λ k. ((get_or runs i d).0 ≤ℤ (get_or runs k d).0) × ((get_or runs i d).1 ≤ℤ (get_or runs k d).1)) same (omega (arith, ints), omega (arith, ints))
+]
 
 -- runs up to one that ends below a value end below it, and from one that doesn't on none does
 pub reach_more : (runs : List (ℤ × ℤ)) (z : ℤ) (m : ℕ) (e : ℤ × ℤ) → AreRuns runs → m < length runs → (get_or runs m e).1 <ℤ z → (k : ℕ) (d : ℤ × ℤ) → k < m + 1 → (get_or runs k d).1 <ℤ z

@@ -1,19 +1,19 @@
 -- What a model keeps of a constraint is enough for a call.
 use Rattle.std.proofs.Common.{ℕ, arith}
-use Rattle.fzn_model.specs.Kept.{ConKept, BaseKept, of_model, of_call}
+use Rattle.fzn_model.specs.Limits.{ConInLimits, BaseInLimits, of_model, of_call}
 use Rattle.fzn_model.specs.declared.con.Con.{Con}
 use Rattle.fzn_model.specs.declared.con.Con.TheVariants as con
 use Rattle.fzn_model.specs.declared.base.Base.{Base}
 use Rattle.fzn_model.specs.declared.base.Base.TheVariants as base
 
 -- of a base
-base_of_call : (n : ℕ) (b : Base) → BaseKept of_model n b → BaseKept of_call n b
+base_of_call : (n : ℕ) (b : Base) → BaseInLimits of_model n b → BaseInLimits of_call n b
 base_of_call n (base.Lin l) k = record { sum = k.sum; constant = omega (arith, k.constant) }
 base_of_call n (base.Clause c) k = k
 base_of_call n (base.Member m) k = k
 
 -- of a constraint
-pub con_of_call : (n : ℕ) (c : Con) → ConKept of_model n c → ConKept of_call n c
+pub con_of_call : (n : ℕ) (c : Con) → ConInLimits of_model n c → ConInLimits of_call n c
 con_of_call n (con.Base b) k = base_of_call n b k
 con_of_call n (con.Reif b r f) (k, t) = (base_of_call n b k, t)
 con_of_call n (con.Times a b c) k = k

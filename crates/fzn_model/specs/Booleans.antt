@@ -6,7 +6,7 @@ use Rattle.fzn_model.specs.declared.base.Base.{Base}
 use Rattle.fzn_model.specs.declared.base.Base.TheVariants as base
 use Rattle.fzn_model.specs.declared.con.Con.{Con}
 use Rattle.fzn_model.specs.declared.con.Con.TheVariants as con
-use Rattle.fzn_model.specs.Kept.{IsBit, ConKept, of_call}
+use Rattle.fzn_model.specs.Limits.{IsBit, ConInLimits, of_call}
 use Rattle.fzn_model.specs.Boxes.{domain_at}
 
 -- 0, 1, or a variable that has no other values
@@ -26,6 +26,6 @@ ConBooleans box (con.Reif b r f) = BaseBooleans box b × IsBoolean box r
 ConBooleans box c = ⊤
 
 -- a constraint over the variables of a box
-pub record Suits (box : List (List ℤ)) (c : Con) : Type 0 where
-  pub kept : ConKept of_call (length box) c
+pub record FitsBox (box : List (List ℤ)) (c : Con) : Type 0 where
+  pub kept : ConInLimits of_call (length box) c
   pub booleans : ConBooleans box c

@@ -47,11 +47,11 @@ pub record IsLookedAt (box : List (List ℤ)) (t : Term) (v : ℤ) : Type 0 wher
   pub bound : IsWide box t → (v ≡ term_low box t) ⊎ (v ≡ term_high box t)
 
 -- the least and the greatest of a coefficient times a term
-abbrev pub part_low : List (List ℤ) → ℤ × Term → ℤ
-part_low box p = int_min (p.0 *ℤ term_low box p.1) (p.0 *ℤ term_high box p.1)
+abbrev pub scaled_low : List (List ℤ) → ℤ × Term → ℤ
+scaled_low box p = int_min (p.0 *ℤ term_low box p.1) (p.0 *ℤ term_high box p.1)
 
-abbrev pub part_high : List (List ℤ) → ℤ × Term → ℤ
-part_high box p = int_max (p.0 *ℤ term_low box p.1) (p.0 *ℤ term_high box p.1)
+abbrev pub scaled_high : List (List ℤ) → ℤ × Term → ℤ
+scaled_high box p = int_max (p.0 *ℤ term_low box p.1) (p.0 *ℤ term_high box p.1)
 
 abbrev pub sum_of : (ℤ × Term → ℤ) → List (ℤ × Term) → ℤ
 sum_of f [] = pos 0
@@ -59,14 +59,14 @@ sum_of f (p ∷ ps) = f p +ℤ sum_of f ps
 
 -- the least and the greatest of a sum, term by term
 abbrev pub sum_low : List (List ℤ) → List (ℤ × Term) → ℤ
-sum_low box ps = sum_of (part_low box) ps
+sum_low box ps = sum_of (scaled_low box) ps
 
 abbrev pub sum_high : List (List ℤ) → List (ℤ × Term) → ℤ
-sum_high box ps = sum_of (part_high box) ps
+sum_high box ps = sum_of (scaled_high box) ps
 
 -- the least and the greatest of all but one of them
 abbrev pub others_low : List (List ℤ) → List (ℤ × Term) → ℤ × Term → ℤ
-others_low box ps p = sum_low box ps -ℤ part_low box p
+others_low box ps p = sum_low box ps -ℤ scaled_low box p
 
 abbrev pub others_high : List (List ℤ) → List (ℤ × Term) → ℤ × Term → ℤ
-others_high box ps p = sum_high box ps -ℤ part_high box p
+others_high box ps p = sum_high box ps -ℤ scaled_high box p

@@ -1,6 +1,6 @@
 -- Boxes: a set of values for each variable, as the rising list of its values.
 use Rattle.std.specs.Prelude.{◌≡◌, ◌≢◌, ℕ, ◌<◌, List, [], ◌∷◌, length, slice_index_or, ℤ, pos, ◌-ℤ◌, ◌<ℤ◌, ◌≤ℤ◌, All, AllPairs, Contains}
-use Rattle.fzn_model.specs.Kept.{IsValue}
+use Rattle.fzn_model.specs.Limits.{IsValue}
 
 -- the last of a list, or else the number before it
 abbrev pub last_after : ℤ → List ℤ → ℤ

@@ -3,7 +3,7 @@
 -- published idea of subproblem equivalence (Chu, Garcia de la Banda, Stuckey, 2010).
 use Rattle.std.specs.Prelude.{◌≡◌, ℕ, ◌<◌, ◌≤◌, List, [], ◌∷◌, length, slice_index_or, ℤ, pos, ◌+ℤ◌, ◌*ℤ◌, All, AllPairs}
 use Rattle.fzn_model.specs.declared.con.Con.{Con}
-use Rattle.fzn_model.specs.Kept.{IsValue, DomainKept, ConKept, ConTruths, of_call}
+use Rattle.fzn_model.specs.Limits.{IsValue, DomainInLimits, ConInLimits, ConTruths, of_call}
 use Rattle.fzn_model.specs.Solutions.{InDomains, MeetsAll}
 
 pub record RestParts : Type 0 where
@@ -26,7 +26,7 @@ pub record SolvesRest (r : RestParts) (θ : List ℤ) : Type 0 where
   pub constraints : MeetsAll r.cons θ
 
 -- a cost over n variables
-pub record CostKept (n : ℕ) (ps : List (ℤ × ℕ)) : Type 0 where
+pub record CostInLimits (n : ℕ) (ps : List (ℤ × ℕ)) : Type 0 where
   pub count : length ps ≤ 2000000
   pub factors : All (λ p. IsValue p.0) ps
   pub variables : All (λ p. p.1 < n) ps
@@ -35,10 +35,10 @@ pub record CostKept (n : ℕ) (ps : List (ℤ × ℕ)) : Type 0 where
 -- of taken values too. One label for each constraint, rising.
 pub record IsRest (r : RestParts) : Type 0 where
   pub variables : length r.doms ≤ 100000
-  pub domains : All DomainKept r.doms
+  pub domains : All DomainInLimits r.doms
   pub constraints : length r.cons ≤ 400000
-  pub cons : All (ConKept of_call (length r.doms)) r.cons
+  pub cons : All (ConInLimits of_call (length r.doms)) r.cons
   pub truths : All (ConTruths r.doms) r.cons
-  pub cost : CostKept (length r.doms) r.cost
+  pub cost : CostInLimits (length r.doms) r.cost
   pub labelled : length r.labels ≡ length r.cons
   pub rising : AllPairs (λ a b. a < b) r.labels

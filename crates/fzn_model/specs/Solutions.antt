@@ -1,6 +1,5 @@
 -- The solutions of a model, and what they cost.
 use Rattle.std.specs.Prelude.{◌≡◌, ℕ, ◌<◌, List, [], length, slice_index_or, ℤ, pos, ◌+ℤ◌, neg_ℤ, ◌<ℤ◌, All}
-use Rattle.std.proofs.Common.{sym}
 use Rattle.fzn_model.specs.declared.term.Term.{Term}
 use Rattle.fzn_model.specs.declared.term.Term.TheVariants as term
 use Rattle.fzn_model.specs.declared.con.Con.{Con}
@@ -33,15 +32,15 @@ abbrev pub cost : Parts → List ℤ → ℤ
 cost m θ = goal_cost m.goal θ
 
 -- the domain of a variable, or the one number of a constant, has the number
-abbrev pub Takes : List (List (ℤ × ℤ)) → Term → ℤ → Type 0
-Takes ds (term.Const c) z = z ≡ c
-Takes ds (term.Var n) z = IsIn (slice_index_or ds n []) z
+abbrev pub CanBe : List (List (ℤ × ℤ)) → Term → ℤ → Type 0
+CanBe ds (term.Const c) z = z ≡ c
+CanBe ds (term.Var n) z = IsIn (slice_index_or ds n []) z
 
 -- the goal's domain allows the cost
 abbrev pub AllowsCost : List (List (ℤ × ℤ)) → Goal → ℤ → Type 0
 AllowsCost ds goal.Satisfy c = c ≡ pos 0
-AllowsCost ds (goal.Minimise t) c = Takes ds t c
-AllowsCost ds (goal.Maximise t) c = Takes ds t (neg_ℤ c)
+AllowsCost ds (goal.Minimise t) c = CanBe ds t c
+AllowsCost ds (goal.Maximise t) c = CanBe ds t (neg_ℤ c)
 
 -- one more than the greatest cost that the goal's domain allows
 pub record IsTop (ds : List (List (ℤ × ℤ))) (g : Goal) (top : ℤ) : Type 0 where
@@ -64,7 +63,3 @@ greatest_cost ds (goal.Maximise t) = neg_ℤ (low_term ds t)
 
 abbrev pub top : Parts → ℤ
 top m = greatest_cost m.doms m.goal +ℤ pos 1
-
-pub solves_length : (m : Parts) (θ : List ℤ) → Solves m θ → length θ ≡ length m.doms
-unfolding InDomains
-solves_length m θ s = sym s.domains.0

@@ -1,6 +1,6 @@
 ghost use Rattle.std.specs.Prelude.{◌≡◌, ◌↔◌, IsTrue, IfOk, length};
 ghost use Rattle.fzn_model.specs.Meaning.{val, bit, HoldsBase};
-ghost use Rattle.fzn_model.specs.Kept.{TermIn, BaseKept, of_call};
+ghost use Rattle.fzn_model.specs.Limits.{TermIn, BaseInLimits, of_call};
 
 use crate::clause::Clause;
 use crate::lin::Lin;
@@ -19,7 +19,7 @@ pub enum Base {
 impl Base {
     /// Whether the constraint holds under the assignment.
     pub fn holds(&self, values: &[i64]) -> bool
-        requires { BaseKept of_call (length values.now) self.now }
+        requires { BaseInLimits of_call (length values.now) self.now }
         ensures { IsTrue result ↔ HoldsBase self.now values.now }
     {
         match self {
@@ -44,7 +44,7 @@ impl Base {
 
 /// Whether the base holds exactly where the term has the value of the flag.
 pub(crate) fn reif_holds(base: &Base, truth: Term, flag: bool, values: &[i64]) -> bool
-    requires base { BaseKept of_call (length values.now) base.now }
+    requires base { BaseInLimits of_call (length values.now) base.now }
     requires truth { TermIn (length values.now) truth }
     ensures { IsTrue result ↔ (HoldsBase base.now values.now ↔ (val truth values.now ≡ bit flag)) }
 {

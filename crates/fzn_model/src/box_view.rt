@@ -12,30 +12,30 @@ pub trait BoxView {
     fn low(&self, var: u32) -> i64
         requires { var < length (shape self.now) }
         ensures value { result ≡ low_value (domain_at (shape self.now) var) }
-        ensures sound { IsBox (shape self.now) };
+        ensures well_formed { IsBox (shape self.now) };
 
     /// The greatest value of a variable.
     fn high(&self, var: u32) -> i64
         requires { var < length (shape self.now) }
         ensures value { result ≡ high_value (domain_at (shape self.now) var) }
-        ensures sound { IsBox (shape self.now) };
+        ensures well_formed { IsBox (shape self.now) };
 
     /// Whether the variable can have the value.
     fn has(&self, var: u32, value: i64) -> bool
         requires { var < length (shape self.now) }
         ensures value { IsTrue result ↔ Contains (domain_at (shape self.now) var) value }
-        ensures sound { IsBox (shape self.now) };
+        ensures well_formed { IsBox (shape self.now) };
 
     /// The only value of a variable, where it has one alone.
     fn fixed(&self, var: u32) -> Option<i64>
         requires { var < length (shape self.now) }
         ensures one { IfSome result (λ value. domain_at (shape self.now) var ≡ value ∷ []) }
         ensures open { IfNone result (1 < length (domain_at (shape self.now) var)) }
-        ensures sound { IsBox (shape self.now) };
+        ensures well_formed { IsBox (shape self.now) };
 
     /// How many values a variable has.
     fn size(&self, var: u32) -> u64
         requires { var < length (shape self.now) }
         ensures value { result ≡ length (domain_at (shape self.now) var) }
-        ensures sound { IsBox (shape self.now) };
+        ensures well_formed { IsBox (shape self.now) };
 }

@@ -1,6 +1,6 @@
 ghost use Rattle.std.specs.Prelude.{◌≡◌, ◌↔◌, ◌⊎◌, IsTrue, IfOk, length, pos};
 ghost use Rattle.fzn_model.specs.Meaning.{val, HasValue};
-ghost use Rattle.fzn_model.specs.Kept.{TermsIn, ClauseKept};
+ghost use Rattle.fzn_model.specs.Limits.{TermsIn, ClauseInLimits};
 
 use crate::list::List;
 use crate::term::Term;
@@ -25,7 +25,7 @@ pub(crate) fn has_value(terms: &[Term], value: i64, values: &[i64]) -> bool
 impl Clause {
     /// Whether the clause holds under the assignment.
     pub fn holds(&self, values: &[i64]) -> bool
-        requires { ClauseKept (length values.now) self.now }
+        requires { ClauseInLimits (length values.now) self.now }
         ensures { IsTrue result ↔ (HasValue self.now.pos (pos 1) values.now ⊎ HasValue self.now.neg (pos 0) values.now) }
     {
         has_value(self.pos.as_slice(), 1, values) || has_value(self.neg.as_slice(), 0, values)

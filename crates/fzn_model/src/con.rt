@@ -1,6 +1,6 @@
 ghost use Rattle.std.specs.Prelude.{◌↔◌, IsTrue, length};
 ghost use Rattle.fzn_model.specs.Meaning.{Holds};
-ghost use Rattle.fzn_model.specs.Kept.{ConKept, of_call};
+ghost use Rattle.fzn_model.specs.Limits.{ConInLimits, of_call};
 
 use crate::all_different::all_different_holds;
 use crate::arithmetic::{abs_holds, div_holds, mod_holds, times_holds};
@@ -45,7 +45,7 @@ impl Con {
     /// Whether the constraint holds under the assignment. Takes no memory, and no more steps than grow with the
     /// constraint's length, or with its square where values differ in pairs and for cumulative tasks.
     pub fn holds(&self, values: &[i64]) -> bool
-        requires { ConKept of_call (length values.now) self.now }
+        requires { ConInLimits of_call (length values.now) self.now }
         ensures { IsTrue result ↔ Holds self.now values.now }
     {
         match self {

@@ -1,7 +1,7 @@
 ghost use Rattle.std.specs.Prelude.{◌≡◌, ◌↔◌, ◌++◌, ◌*◌, ◌^◌, ◌≤◌, ◌≤ℤ◌, ◌&&◌, if◌then◌else◌, map, IsTrue, length, pos, int_le, int_lt, unsigned_abs};
 ghost use Rattle.fzn_model.specs.Meaning.{val, amount_at, usage, IsTask, AreTasks, FitsAlways};
 ghost use Rattle.fzn_model.specs.Starts.{StartsFit, TaskStartsFit};
-ghost use Rattle.fzn_model.specs.Kept.{TermIn, UsedKept, TasksKept, of_call};
+ghost use Rattle.fzn_model.specs.Limits.{TermIn, UsedInLimits, TasksInLimits, of_call};
 
 use crate::term::Term;
 
@@ -54,7 +54,7 @@ fn task_at(task: &CumTask, values: &[i64], t: i128) -> i128
 
 #[tactic(auto, using(crate::proofs::Moments::amount_drop))]
 fn used_load(used: &[Used], t: i128) -> i128
-    requires { UsedKept of_call used.now }
+    requires { UsedInLimits of_call used.now }
     ensures value { result ≡ amount_at used.now t }
     ensures low { pos 0 ≤ℤ result }
     ensures high { result ≤ℤ pos (8000000 * 2 ^ 100) }
@@ -68,7 +68,7 @@ fn used_load(used: &[Used], t: i128) -> i128
 
 #[tactic(auto, using(crate::proofs::Moments::task_drop, crate::proofs::Moments::task_amounts))]
 fn task_load(tasks: &[CumTask], values: &[i64], t: i128) -> i128
-    requires kept { TasksKept (length values.now) tasks.now }
+    requires kept { TasksInLimits (length values.now) tasks.now }
     requires amounts { AreTasks tasks.now values.now }
     ensures value { result ≡ amount_at (map (usage values.now) tasks.now) t }
     ensures low { pos 0 ≤ℤ result }
@@ -84,8 +84,8 @@ fn task_load(tasks: &[CumTask], values: &[i64], t: i128) -> i128
 /// What is used up at the moment.
 #[tactic(auto, using(crate::proofs::Moments::amount_append))]
 fn load_at(tasks: &[CumTask], used: &[Used], values: &[i64], t: i128) -> i128
-    requires used { UsedKept of_call used.now }
-    requires kept { TasksKept (length values.now) tasks.now }
+    requires used { UsedInLimits of_call used.now }
+    requires kept { TasksInLimits (length values.now) tasks.now }
     requires amounts { AreTasks tasks.now values.now }
     ensures { result ≡ amount_at (used.now ++ map (usage values.now) tasks.now) t }
 {
@@ -101,7 +101,7 @@ fn is_task(task: &CumTask, values: &[i64]) -> bool
 
 #[tactic(auto, unfolding(crate::specs::Meaning::AreTasks))]
 fn are_tasks(tasks: &[CumTask], values: &[i64]) -> bool
-    requires { TasksKept (length values.now) tasks.now }
+    requires { TasksInLimits (length values.now) tasks.now }
     ensures { IsTrue result ↔ AreTasks tasks.now values.now }
 {
     tasks.iter().all(|task| is_task(task, values))
@@ -115,8 +115,8 @@ fn used_start_fits(
     values: &[i64],
     limit: Term,
 ) -> bool
-    requires used { UsedKept of_call used.now }
-    requires kept { TasksKept (length values.now) tasks.now }
+    requires used { UsedInLimits of_call used.now }
+    requires kept { TasksInLimits (length values.now) tasks.now }
     requires amounts { AreTasks tasks.now values.now }
     requires limit { TermIn (length values.now) limit }
     ensures { IsTrue result ↔ (amount_at (used.now ++ map (usage values.now) tasks.now) part.now.from ≤ℤ val limit values.now) }
@@ -133,8 +133,8 @@ fn task_start_fits(
     limit: Term,
 ) -> bool
     requires start { TermIn (length values.now) start }
-    requires used { UsedKept of_call used.now }
-    requires kept { TasksKept (length values.now) tasks.now }
+    requires used { UsedInLimits of_call used.now }
+    requires kept { TasksInLimits (length values.now) tasks.now }
     requires amounts { AreTasks tasks.now values.now }
     requires limit { TermIn (length values.now) limit }
     ensures { IsTrue result ↔ (amount_at (used.now ++ map (usage values.now) tasks.now) (val start values.now) ≤ℤ val limit values.now) }
@@ -144,8 +144,8 @@ fn task_start_fits(
 
 #[tactic(auto, unfolding(crate::specs::Starts::StartsFit))]
 fn used_starts_fit(tasks: &[CumTask], used: &[Used], values: &[i64], limit: Term) -> bool
-    requires used { UsedKept of_call used.now }
-    requires kept { TasksKept (length values.now) tasks.now }
+    requires used { UsedInLimits of_call used.now }
+    requires kept { TasksInLimits (length values.now) tasks.now }
     requires amounts { AreTasks tasks.now values.now }
     requires limit { TermIn (length values.now) limit }
     ensures { IsTrue result ↔ StartsFit (used.now ++ map (usage values.now) tasks.now) used.now (val limit values.now) }
@@ -156,8 +156,8 @@ fn used_starts_fit(tasks: &[CumTask], used: &[Used], values: &[i64], limit: Term
 
 #[tactic(auto, unfolding(crate::specs::Starts::TaskStartsFit))]
 fn task_starts_fit(tasks: &[CumTask], used: &[Used], values: &[i64], limit: Term) -> bool
-    requires used { UsedKept of_call used.now }
-    requires kept { TasksKept (length values.now) tasks.now }
+    requires used { UsedInLimits of_call used.now }
+    requires kept { TasksInLimits (length values.now) tasks.now }
     requires amounts { AreTasks tasks.now values.now }
     requires limit { TermIn (length values.now) limit }
     ensures { IsTrue result ↔ TaskStartsFit (used.now ++ map (usage values.now) tasks.now) tasks.now values.now (val limit values.now) }
@@ -170,8 +170,8 @@ fn task_starts_fit(tasks: &[CumTask], used: &[Used], values: &[i64], limit: Term
 /// The amounts rise only where something starts, so these moments are enough.
 #[tactic(auto, using(crate::proofs::Moments::starts_enough, crate::proofs::Moments::fits_starts, crate::proofs::Moments::fits_task_starts, crate::proofs::Moments::fits_limit))]
 fn fits_always(tasks: &[CumTask], used: &[Used], values: &[i64], limit: Term) -> bool
-    requires used { UsedKept of_call used.now }
-    requires kept { TasksKept (length values.now) tasks.now }
+    requires used { UsedInLimits of_call used.now }
+    requires kept { TasksInLimits (length values.now) tasks.now }
     requires amounts { AreTasks tasks.now values.now }
     requires limit { TermIn (length values.now) limit }
     ensures { IsTrue result ↔ FitsAlways (used.now ++ map (usage values.now) tasks.now) (val limit values.now) }
@@ -188,8 +188,8 @@ pub(crate) fn cumulative_holds(
     limit: Term,
     values: &[i64],
 ) -> bool
-    requires used { UsedKept of_call used.now }
-    requires kept { TasksKept (length values.now) tasks.now }
+    requires used { UsedInLimits of_call used.now }
+    requires kept { TasksInLimits (length values.now) tasks.now }
     requires limit { TermIn (length values.now) limit }
     ensures { IsTrue result ↔ (AreTasks tasks.now values.now × FitsAlways (used.now ++ map (usage values.now) tasks.now) (val limit values.now)) }
 {

@@ -1,6 +1,6 @@
 ghost use Rattle.std.specs.Prelude.{◌↔◌, IsTrue, length};
 ghost use Rattle.fzn_model.specs.Meaning.{HoldsElement};
-ghost use Rattle.fzn_model.specs.Kept.{TermIn, TermsIn};
+ghost use Rattle.fzn_model.specs.Limits.{TermIn, TermsIn};
 
 use crate::term::Term;
 

@@ -1,6 +1,6 @@
 ghost use Rattle.std.specs.Prelude.{◌↔◌, ◌≤ℤ◌, IsTrue, length};
 ghost use Rattle.fzn_model.specs.Meaning.{val, HasValue, AreAtMost, AreAtLeast};
-ghost use Rattle.fzn_model.specs.Kept.{TermIn, TermsIn};
+ghost use Rattle.fzn_model.specs.Limits.{TermIn, TermsIn};
 
 use crate::clause::has_value;
 use crate::term::Term;

@@ -40,8 +40,6 @@ mod model;
 mod out;
 mod pick;
 mod rest;
-#[cfg(test)]
-mod tests;
 
 pub use base::Base;
 pub use box_view::BoxView;

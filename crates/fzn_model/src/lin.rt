@@ -1,7 +1,7 @@
 ghost use Rattle.std.specs.Prelude.{◌≡◌, ◌↔◌, ◌*◌, ◌≤◌, ◌^◌, ◌*ℤ◌, IsTrue, IfOk, All, map, length, unsigned_abs};
 ghost use Rattle.fzn_model.specs.Meaning.{val, lin_sum, Stands};
-ghost use Rattle.fzn_model.specs.Kept.{IsValue, TermIn, SumKept, LinKept, of_call};
-ghost use Rattle.fzn_model.specs.Opposites.{turned, negated, opposite};
+ghost use Rattle.fzn_model.specs.Limits.{IsValue, TermIn, SumInLimits, LinInLimits, of_call};
+ghost use Rattle.fzn_model.specs.Opposites.{negated_one, negated, opposite};
 
 use crate::list::List;
 use crate::term::Term;
@@ -36,48 +36,48 @@ impl Rel {
 }
 
 /// Coefficient times value.
-fn scaled(part: &(i64, Term), values: &[i64]) -> i128
-    requires factor { IsValue part.now.0 }
-    requires term { TermIn (length values.now) part.now.1 }
-    ensures value { result ≡ part.now.0 *ℤ val part.now.1 values.now }
+fn scaled(term: &(i64, Term), values: &[i64]) -> i128
+    requires factor { IsValue term.now.0 }
+    requires term { TermIn (length values.now) term.now.1 }
+    ensures value { result ≡ term.now.0 *ℤ val term.now.1 values.now }
     ensures small { unsigned_abs result ≤ 1000000000 * 2 ^ 63 }
 {
-    i128::from(part.0) * i128::from(part.1.value(values))
+    i128::from(term.0) * i128::from(term.1.value(values))
 }
 
 /// The sum of coefficient times value.
 fn sum_of(terms: &[(i64, Term)], values: &[i64]) -> i128
-    requires { SumKept (length values.now) terms.now }
+    requires { SumInLimits (length values.now) terms.now }
     ensures { result ≡ lin_sum terms.now values.now }
 {
     let mut sum: i128 = 0;
-    for part in terms {
-        sum += scaled(part, values);
+    for term in terms {
+        sum += scaled(term, values);
     }
     sum
 }
 
-/// A coefficient with its sign turned, beside its term.
-#[tactic(auto, unfolding(crate::specs::Opposites::turned))]
-fn turned(part: &(i64, Term)) -> (i64, Term)
-    requires { IsValue part.now.0 }
-    ensures { result ≡ turned part.now }
+/// A coefficient with its sign negated, beside its term.
+#[tactic(auto, unfolding(crate::specs::Opposites::negated_one))]
+fn negated_one(term: &(i64, Term)) -> (i64, Term)
+    requires { IsValue term.now.0 }
+    ensures { result ≡ negated_one term.now }
 {
-    (-part.0, part.1)
+    (-term.0, term.1)
 }
 
 /// The negative of a sum.
-fn negated(alloc: Global, parts: &[(i64, Term)]) -> Result<Vec<(i64, Term)>, AllocError>
-    requires { All (λ t. IsValue t.0) parts.now }
-    ensures { IfOk result (λ negative. negative.items ≡ negated parts.now) }
+fn negated(alloc: Global, terms: &[(i64, Term)]) -> Result<Vec<(i64, Term)>, AllocError>
+    requires { All (λ t. IsValue t.0) terms.now }
+    ensures { IfOk result (λ negative. negative.items ≡ negated terms.now) }
 {
-    parts.iter().map(|part| turned(part)).collect(alloc)
+    terms.iter().map(|term| negated_one(term)).collect(alloc)
 }
 
 impl Lin {
     /// Whether the relation holds under the assignment.
     pub fn holds(&self, values: &[i64]) -> bool
-        requires { LinKept of_call (length values.now) self.now }
+        requires { LinInLimits of_call (length values.now) self.now }
         ensures { IsTrue result ↔ Stands self.now.rel (lin_sum self.now.terms values.now) self.now.r }
     {
         self.rel

@@ -1,7 +1,7 @@
 ghost use Rattle.std.specs.Prelude.{◌≡◌, ◌↔◌, IsTrue, IfOk, length};
 ghost use Rattle.fzn_model.specs.Sets.{IsIn};
 ghost use Rattle.fzn_model.specs.Meaning.{val};
-ghost use Rattle.fzn_model.specs.Kept.{TermIn};
+ghost use Rattle.fzn_model.specs.Limits.{TermIn};
 
 use crate::runs::Runs;
 use crate::term::Term;

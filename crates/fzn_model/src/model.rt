@@ -1,7 +1,7 @@
 ghost use Rattle.std.specs.Prelude.{◌≡◌, ◌↔◌, ◌<◌, ◌≤ℤ◌, ◌+ℤ◌, ◌-ℤ◌, ℤ, pos, IsTrue, All, length};
 ghost use Rattle.fzn_model.specs.Meaning.{Holds};
-ghost use Rattle.fzn_model.specs.Solutions.{InDomains, MeetsAll, Solves, cost, top, greatest_cost, IsTop, Takes, low_term, high_term};
-ghost use Rattle.fzn_model.specs.Kept.{IsNear, IsValue, TermIn, GoalKept, DomainKept, ConKept, of_model};
+ghost use Rattle.fzn_model.specs.Solutions.{InDomains, MeetsAll, Solves, cost, top, greatest_cost, IsTop, CanBe, low_term, high_term};
+ghost use Rattle.fzn_model.specs.Limits.{IsNear, IsValue, TermIn, GoalInLimits, DomainInLimits, ConInLimits, of_model};
 
 use crate::con::Con;
 use crate::goal::Goal;
@@ -27,7 +27,7 @@ impl std::marker::Model for Model {
 
     ghost Value = { Parts };
 
-    ghost use Rattle.fzn_model.specs.Kept.{IsModel};
+    ghost use Rattle.fzn_model.specs.Limits.{IsModel};
 
     ghost view = { λ m. record { doms = m.doms; cons = m.cons; goal = m.goal; outs = m.outs; order = m.order } };
 
@@ -48,7 +48,7 @@ fn in_domains(domains: &[Runs], values: &[i64]) -> bool
 /// A constraint of a model holds.
 #[tactic(auto, using(crate::proofs::Wider::con_of_call))]
 fn meets(con: &Con, values: &[i64]) -> bool
-    requires { ConKept of_model (length values.now) con.now }
+    requires { ConInLimits of_model (length values.now) con.now }
     ensures { IsTrue result ↔ Holds con.now values.now }
 {
     con.holds(values)
@@ -56,7 +56,7 @@ fn meets(con: &Con, values: &[i64]) -> bool
 
 #[tactic(auto, unfolding(crate::specs::Solutions::MeetsAll))]
 fn meets_all(cons: &[Con], values: &[i64]) -> bool
-    requires { All (ConKept of_model (length values.now)) cons.now }
+    requires { All (ConInLimits of_model (length values.now)) cons.now }
     ensures { IsTrue result ↔ MeetsAll cons.now values.now }
 {
     cons.iter().all(|con| meets(con, values))
@@ -86,12 +86,12 @@ pub fn cost_of(model: &Model, values: &[i64]) -> i64
 /// The greatest number of a term.
 fn highest(domains: &[Runs], term: Term) -> i64
     requires term { TermIn (length domains.now) term }
-    requires domains { All DomainKept domains.now }
+    requires domains { All DomainInLimits domains.now }
     requires some { All (λ d. 0 < length d) domains.now }
     ensures value { result ≡ high_term domains.now term }
     ensures within { IsValue result }
-    ensures reached { Takes domains.now term result }
-    ensures above { (z : ℤ) → Takes domains.now term z → z ≤ℤ result }
+    ensures reached { CanBe domains.now term result }
+    ensures above { (z : ℤ) → CanBe domains.now term z → z ≤ℤ result }
 {
     match term {
         Term::Const(value) => value,
@@ -102,12 +102,12 @@ fn highest(domains: &[Runs], term: Term) -> i64
 /// The least number of a term.
 fn lowest(domains: &[Runs], term: Term) -> i64
     requires term { TermIn (length domains.now) term }
-    requires domains { All DomainKept domains.now }
+    requires domains { All DomainInLimits domains.now }
     requires some { All (λ d. 0 < length d) domains.now }
     ensures value { result ≡ low_term domains.now term }
     ensures within { IsValue result }
-    ensures reached { Takes domains.now term result }
-    ensures below { (z : ℤ) → Takes domains.now term z → result ≤ℤ z }
+    ensures reached { CanBe domains.now term result }
+    ensures below { (z : ℤ) → CanBe domains.now term z → result ≤ℤ z }
 {
     match term {
         Term::Const(value) => value,
@@ -132,8 +132,8 @@ fn after_negated(low: i64) -> i64
 /// One more than the greatest cost that the domains allow.
 #[tactic(auto, using(crate::proofs::Tops::top_satisfy, crate::proofs::Tops::top_minimise, crate::proofs::Tops::top_maximise))]
 fn top_under(domains: &[Runs], goal: Goal) -> i64
-    requires goal { GoalKept (length domains.now) goal }
-    requires domains { All DomainKept domains.now }
+    requires goal { GoalInLimits (length domains.now) goal }
+    requires domains { All DomainInLimits domains.now }
     requires some { All (λ d. 0 < length d) domains.now }
     ensures value { result ≡ (greatest_cost domains.now goal +ℤ pos 1) }
     ensures greatest { IsTop domains.now goal result }

@@ -1,6 +1,6 @@
 ghost use Rattle.std.specs.Prelude.{◌≡◌, ◌↔◌, ◌<◌, IsTrue, length};
 ghost use Rattle.fzn_model.specs.Meaning.{IsRow, HasRow};
-ghost use Rattle.fzn_model.specs.Kept.{TermsIn, ListKept};
+ghost use Rattle.fzn_model.specs.Limits.{TermsIn, ListInLimits};
 
 use crate::term::Term;
 
@@ -19,7 +19,7 @@ fn row_is(terms: &[Term], row: &[i64], values: &[i64]) -> bool
 /// Whether the values of the terms are one of the rows, which stand one after the other.
 #[tactic(auto, unfolding(crate::specs::Meaning::HasRow))]
 pub(crate) fn table_holds(terms: &[Term], rows: &[i64], values: &[i64]) -> bool
-    requires { ListKept (length values.now) terms.now }
+    requires { ListInLimits (length values.now) terms.now }
     ensures { IsTrue result ↔ HasRow terms.now rows.now values.now }
 {
     let width = terms.len();

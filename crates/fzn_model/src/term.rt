@@ -1,6 +1,6 @@
 ghost use Rattle.std.specs.Prelude.{◌≡◌, length};
 ghost use Rattle.fzn_model.specs.Meaning.{val};
-ghost use Rattle.fzn_model.specs.Kept.{TermIn};
+ghost use Rattle.fzn_model.specs.Limits.{TermIn};
 
 /// The greatest value, bound, coefficient or constant of a model; the least is its negative. This project's own limit.
 pub const LARGEST_VALUE: i64 = 1_000_000;

@@ -3,13 +3,13 @@ use Rattle.std.proofs.Common.{◌≡◌, ℕ, zero, suc, List, [], ◌++◌, Boo
 use Rattle.std.proofs.lemmas.List.{append-nil}
 use Rattle.fzn_lexer.specs.Spots.{Spot, first, after_first, IsWhole}
 use Rattle.fzn_lexer.specs.declared.kind.Kind.TheVariants as kind
-use Rattle.fzn_parser.specs.declared.begin.Begin.{Begin}
-use Rattle.fzn_parser.specs.declared.begin.Begin.TheVariants as begin
-use Rattle.fzn_parser.specs.declared.code.Code.TheVariants as code
-use Rattle.fzn_parser.specs.declared.refused.Refused.{Refused}
-use Rattle.fzn_parser.specs.Refusals.{is_kind, is_mark, most, refuse}
-use Rattle.fzn_parser.specs.Exprs.{begins}
-use Rattle.fzn_parser.specs.Annotations.{ann_begins_by, any_number_at, ann_number_at, Group, ann_with, annexpr_by, passing, group_with, annexpr_at, group_at, ann_at, annotation_at, annotations_at}
+use Rattle.fzn_reader.specs.declared.begin.Begin.{Begin}
+use Rattle.fzn_reader.specs.declared.begin.Begin.TheVariants as begin
+use Rattle.fzn_reader.specs.declared.code.Code.TheVariants as code
+use Rattle.fzn_reader.specs.declared.refused.Refused.{Refused}
+use Rattle.fzn_reader.specs.Refusals.{is_kind, is_mark, most, refuse}
+use Rattle.fzn_reader.specs.Exprs.{begins}
+use Rattle.fzn_reader.specs.Annotations.{ann_begins_by, any_number_at, ann_number_at, Group, ann_with, annexpr_by, passing, group_with, annexpr_at, group_at, ann_at, annotation_at, annotations_at}
 use Rattle.fzn_parser.specs.Grammar.{◌·◌, Optional, Mark, Name, Number, Separated, Leaf, AnnExpr, Ann, Annotations}
 use Rattle.fzn_parser.specs.Laws.{Reads}
 use Rattle.fzn_parser.proofs.Lawful.{IsLawful, after, here, is_ok, refused, onward, given, next, finish, wider, widen, choice, took, takes_spelled, takes_kind, takes_leaf, token_law, mark_law, name_law, repeat_law}

@@ -6,10 +6,10 @@ use Rattle.fzn_lexer.specs.Spots.{Spot, first, after_first, IsWhole}
 use Rattle.fzn_lexer.specs.declared.seen.Seen.{Seen}
 use Rattle.fzn_lexer.specs.declared.seen.Seen.TheVariants.{Known, End, Bad}
 use Rattle.fzn_lexer.specs.declared.kind.Kind.TheVariants as kind
-use Rattle.fzn_parser.specs.declared.begin.Begin.{Begin}
-use Rattle.fzn_parser.specs.declared.begin.Begin.TheVariants as begin
-use Rattle.fzn_parser.specs.Refusals.{is_kind, is_reserved}
-use Rattle.fzn_parser.specs.Exprs.{begins, token_begins}
+use Rattle.fzn_reader.specs.declared.begin.Begin.{Begin}
+use Rattle.fzn_reader.specs.declared.begin.Begin.TheVariants as begin
+use Rattle.fzn_reader.specs.Refusals.{is_kind, is_reserved}
+use Rattle.fzn_reader.specs.Exprs.{begins, token_begins}
 use Rattle.fzn_parser.specs.Grammar.{Number, Mark, Keyword, Name}
 use Rattle.fzn_parser.specs.Laws.{Reads}
 use Rattle.fzn_parser.proofs.Lawful.{took, takes_spelled, takes_kind, takes_name}

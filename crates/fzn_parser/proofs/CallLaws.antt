@@ -1,45 +1,39 @@
 -- Constraints, and what is sought: what is read is spelled by its rule, and a refusal is fair.
 use Rattle.std.proofs.Common.{◌≡◌, ℕ, List, [], true, Option, Some, None, length, refl, inl, inr, codes, is_some, nat_lt}
-use Rattle.std.specs.Prelude.{slice_get}
+use Rattle.std.specs.Prelude.{option_map, slice_get}
 use Rattle.fzn_lexer.specs.Spots.{Spot, first, after_first, IsWhole}
 use Rattle.fzn_lexer.specs.declared.kind.Kind.TheVariants as kind
-use Rattle.fzn_model.specs.declared.term.Term.{Term}
-use Rattle.fzn_model.specs.declared.con.Con.{Con}
 use Rattle.fzn_model.specs.declared.goal.Goal.TheVariants as goal
 use Rattle.fzn_builtin.specs.declared.needs.Need.{Need}
 use Rattle.fzn_builtin.specs.declared.needs.Need.TheVariants as need
 use Rattle.fzn_builtin.specs.Builtins.{numbered, needs_of, shape_of}
-use Rattle.fzn_builtin.specs.Made.{made}
-use Rattle.fzn_parser.specs.declared.begin.Begin.{Begin}
-use Rattle.fzn_parser.specs.declared.begin.Begin.TheVariants as begin
-use Rattle.fzn_parser.specs.declared.code.Code.TheVariants as code
-use Rattle.fzn_parser.specs.declared.decl.Decl.{Decl}
-use Rattle.fzn_parser.specs.declared.scalar.Scalar.{Scalar}
-use Rattle.fzn_parser.specs.declared.scalar.Scalar.TheVariants.{IntConst, IntTerm, BoolConst, BoolTerm}
-use Rattle.fzn_parser.specs.Refusals.{is_mark, is_word}
-use Rattle.fzn_parser.specs.Names.{Names, find_name}
-use Rattle.fzn_parser.specs.Exprs.{begins}
-use Rattle.fzn_parser.specs.Drafts.{Stated}
-use Rattle.fzn_parser.specs.Types.{set_at}
-use Rattle.fzn_parser.specs.Scalars.{scalar_at}
-use Rattle.fzn_parser.specs.Constraints.{misfit, fitting_list, list_or_refuse, named_list, written_list, list_by, list_arg_at, Args, arg_by, needed_by, one_arg, is_whole, built, built_at, known, call_at, constraint_at}
-use Rattle.fzn_parser.specs.Solving.{solve_ann, goal_at, solve_at}
+use Rattle.fzn_builtin.specs.Constraints.{constraint_of}
+use Rattle.fzn_reader.specs.declared.begin.Begin.{Begin}
+use Rattle.fzn_reader.specs.declared.begin.Begin.TheVariants as begin
+use Rattle.fzn_reader.specs.declared.code.Code.TheVariants as code
+use Rattle.fzn_reader.specs.declared.decl.Decl.{Decl}
+use Rattle.fzn_reader.specs.declared.scalar.Scalar.{Scalar}
+use Rattle.fzn_reader.specs.declared.scalar.Scalar.TheVariants.{IntConst, IntTerm, BoolConst, BoolTerm}
+use Rattle.fzn_reader.specs.Refusals.{is_mark, is_word}
+use Rattle.fzn_reader.specs.Names.{Names, find_name}
+use Rattle.fzn_reader.specs.Exprs.{begins}
+use Rattle.fzn_reader.specs.Drafts.{Stated}
+use Rattle.fzn_reader.specs.Types.{set_at}
+use Rattle.fzn_reader.specs.Scalars.{scalar_at}
+use Rattle.fzn_reader.specs.Constraints.{misfit, fitting_list, named_list, written_list, list_by, list_arg_at, Args, arg_by, needed_by, one_arg, is_argument_count, built_at, known, call_at, constraint_at}
+use Rattle.fzn_reader.specs.Solving.{solve_ann, goal_at, solve_at}
 use Rattle.fzn_parser.specs.Grammar.{◌·◌, ◌∣◌, Mark, Keyword, ListOf, Expr, Ann, Call, Constraint, Solve}
 use Rattle.fzn_parser.specs.Laws.{Reads}
-use Rattle.fzn_parser.proofs.Lawful.{IsLawful, after, is_ok, refused, onward, given, next, finish, wider, widen, choice, nothing_read, took, takes_spelled, mark_law, name_law}
+use Rattle.fzn_parser.proofs.Lawful.{IsLawful, after, is_ok, refused, value_law, onward, given, next, finish, wider, widen, choice, nothing_read, took, takes_spelled, mark_law, name_law}
 use Rattle.fzn_parser.proofs.ListLaws.{separated_law}
 use Rattle.fzn_parser.proofs.BeginLaws.{Begun, begun}
 use Rattle.fzn_parser.proofs.ExprLaws.{name_element, set_law, scalar_law, terms_law}
 use Rattle.fzn_parser.proofs.AnnLaws.{ann_law, passed_law, annotations_law}
 use Rattle.fzn_parser.proofs.DeclLaws.{took_word}
 
-list_or_law : {X : List Spot → Type 0} (terms : Option (List Term)) (used : ℕ) (ts : List Spot) → IsWhole ts → Reads X ts (after_first ts) → IsLawful X after ts (list_or_refuse terms used ts)
-list_or_law None used ts w r = refused code.WrongArguments ts w
-list_or_law (Some terms) used ts w r = is_ok _ r
-
 named_list_law : {X : List Spot → Type 0} (s : Scalar) (d : Option Decl) (used : ℕ) (ts : List Spot) → IsWhole ts → Reads X ts (after_first ts) → IsLawful X after ts (named_list s d used ts)
 named_list_law s None used ts w r = refused code.Undeclared ts w
-named_list_law s (Some d) used ts w r = list_or_law (fitting_list s d) used ts w r
+named_list_law s (Some d) used ts w r = value_law code.WrongArguments (option_map (λ terms. (terms, used)) (fitting_list s d)) ts w r
 
 -- from its "[" on
 written_law : (s : Scalar) (names : Names) (used : ℕ) (ts : List Spot) → Reads (Mark (codes "[")) ts (after_first ts) → IsLawful ListOf after ts (written_list s names used ts)
@@ -82,14 +76,10 @@ one_arg_law : (builtin : ℕ) (names : Names) (done : Args) (ts : List Spot) →
 unfolding one_arg
 one_arg_law builtin names done ts w = finish _ (needed_law (slice_get (needs_of builtin) (length done.0)) names done.1 ts w) (λ x. refl)
 
-built_law : {X : List Spot → Type 0} (c : Option Con) (used : ℕ) (ts : List Spot) → IsWhole ts → Reads X ts (after_first ts) → IsLawful X after ts (built c used ts)
-built_law None used ts w r = refused code.Lengths ts w
-built_law (Some c) used ts w r = is_ok _ r
-
 built_at_law : (builtin : ℕ) (args : Args) (ts : List Spot) → IsWhole ts → IsLawful (Mark (codes ")")) after ts (built_at builtin args ts)
 unfolding built_at
 built_at_law builtin args ts w = choice (is_mark (codes ")") ts)
-    (λ h. choice (is_whole builtin (length args.0)) (λ e. built_law (made (shape_of builtin) args.0) args.1 ts w (took _ (takes_spelled kind.Mark (codes ")")) ts w h)) (λ e. refused code.WrongArguments ts w))
+    (λ h. choice (is_argument_count builtin (length args.0)) (λ e. value_law code.Lengths (option_map (λ c. (c, args.1)) (constraint_of (shape_of builtin) args.0)) ts w (took _ (takes_spelled kind.Mark (codes ")")) ts w h)) (λ e. refused code.WrongArguments ts w))
     (λ h. refused code.Syntax ts w)
 
 known_law : (b : Option ℕ) (ts : List Spot) → IsWhole ts → IsLawful (λ us. us ≡ []) (λ x. ts) ts (known b ts)

@@ -2,20 +2,20 @@
 use Rattle.std.proofs.Common.{◌≡◌, ℕ, List, Bool, true, false, refl, inl, inr, codes, is_some}
 use Rattle.fzn_lexer.specs.Spots.{Spot, after_first, IsWhole}
 use Rattle.fzn_lexer.specs.declared.kind.Kind.TheVariants as kind
-use Rattle.fzn_parser.specs.declared.begin.Begin.{Begin}
-use Rattle.fzn_parser.specs.declared.begin.Begin.TheVariants as begin
-use Rattle.fzn_parser.specs.declared.code.Code.TheVariants as code
-use Rattle.fzn_parser.specs.declared.par_type.ParType.{ParType as ParTypeValue}
-use Rattle.fzn_parser.specs.declared.par_type.ParType.TheVariants as par
-use Rattle.fzn_parser.specs.declared.scalar.Scalar.{Scalar}
-use Rattle.fzn_parser.specs.declared.scalar.Scalar.TheVariants.{IntConst, BoolConst}
-use Rattle.fzn_parser.specs.Refusals.{is_mark, is_word}
-use Rattle.fzn_parser.specs.Names.{Names, find_name}
-use Rattle.fzn_parser.specs.Exprs.{begins}
-use Rattle.fzn_parser.specs.Drafts.{Stated}
-use Rattle.fzn_parser.specs.Types.{partype_at, vartype_at, set_type_by, new_name_at}
-use Rattle.fzn_parser.specs.Outputs.{variable_ann}
-use Rattle.fzn_parser.specs.Items.{value_by, parameter_at, initialiser_at, variable_at}
+use Rattle.fzn_reader.specs.declared.begin.Begin.{Begin}
+use Rattle.fzn_reader.specs.declared.begin.Begin.TheVariants as begin
+use Rattle.fzn_reader.specs.declared.code.Code.TheVariants as code
+use Rattle.fzn_reader.specs.declared.par_type.ParType.{ParType as ParTypeValue}
+use Rattle.fzn_reader.specs.declared.par_type.ParType.TheVariants as par
+use Rattle.fzn_reader.specs.declared.scalar.Scalar.{Scalar}
+use Rattle.fzn_reader.specs.declared.scalar.Scalar.TheVariants.{IntConst, BoolConst}
+use Rattle.fzn_reader.specs.Refusals.{is_mark, is_word}
+use Rattle.fzn_reader.specs.Names.{Names, find_name}
+use Rattle.fzn_reader.specs.Exprs.{begins}
+use Rattle.fzn_reader.specs.Drafts.{Stated}
+use Rattle.fzn_reader.specs.Types.{partype_at, vartype_at, set_type_by, new_name_at}
+use Rattle.fzn_reader.specs.Outputs.{variable_ann}
+use Rattle.fzn_reader.specs.Items.{value_by, parameter_at, initialiser_at, variable_at}
 use Rattle.fzn_parser.specs.Grammar.{◌·◌, Optional, Mark, Keyword, Name, ParType, VarType, Expr, Ann, Parameter, Variable}
 use Rattle.fzn_parser.specs.Laws.{Reads}
 use Rattle.fzn_parser.proofs.Lawful.{IsLawful, after, is_ok, refused, onward, given, next, finish, wider, widen, choice, nothing_read, took, takes_spelled, mark_law, word_law, name_law}

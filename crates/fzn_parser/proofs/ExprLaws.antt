@@ -1,35 +1,30 @@
 -- Numbers, sets, ints, bools and lists: what is read of each is spelled by its rule, and a refusal is fair.
 use Rattle.std.proofs.Common.{◌≡◌, ℕ, ◌+◌, List, [], ◌∷◌, ◌++◌, Bool, true, false, ◌&&◌, not, Option, Some, None, Result, length, refl, inl, inr, codes, ℤ}
 use Rattle.fzn_lexer.specs.Spots.{Spot, first, after_first, IsWhole}
-use Rattle.fzn_model.specs.declared.term.Term.{Term}
 use Rattle.fzn_model.specs.declared.term.Term.TheVariants.{Const}
-use Rattle.fzn_parser.specs.declared.begin.Begin.{Begin}
-use Rattle.fzn_parser.specs.declared.begin.Begin.TheVariants as begin
-use Rattle.fzn_parser.specs.declared.code.Code.TheVariants as code
-use Rattle.fzn_parser.specs.declared.decl.Decl.{Decl}
-use Rattle.fzn_parser.specs.declared.decl.Decl.TheVariants as decl
-use Rattle.fzn_parser.specs.declared.scalar.Scalar.{Scalar}
-use Rattle.fzn_parser.specs.declared.refused.Refused.{Refused}
-use Rattle.fzn_parser.specs.Refusals.{is_mark, most}
-use Rattle.fzn_parser.specs.Names.{Names, find_name}
-use Rattle.fzn_parser.specs.Numbers.{number_in}
-use Rattle.fzn_parser.specs.Exprs.{begins}
-use Rattle.fzn_parser.specs.Sets.{in_range, number_by, number_at, range_at, one_number, braces_at}
-use Rattle.fzn_parser.specs.Types.{named_set, room_at, set_by, set_at}
-use Rattle.fzn_parser.specs.Scalars.{takes_numbers, term_or_refuse, named_term, fitting_term, scalar_by, scalar_at, limited}
-use Rattle.fzn_parser.specs.Lists.{has_room, one_element, elements_at}
+use Rattle.fzn_reader.specs.declared.begin.Begin.{Begin}
+use Rattle.fzn_reader.specs.declared.begin.Begin.TheVariants as begin
+use Rattle.fzn_reader.specs.declared.code.Code.TheVariants as code
+use Rattle.fzn_reader.specs.declared.decl.Decl.{Decl}
+use Rattle.fzn_reader.specs.declared.decl.Decl.TheVariants as decl
+use Rattle.fzn_reader.specs.declared.scalar.Scalar.{Scalar}
+use Rattle.fzn_reader.specs.declared.refused.Refused.{Refused}
+use Rattle.fzn_reader.specs.Refusals.{is_mark, most}
+use Rattle.fzn_reader.specs.Names.{Names, find_name}
+use Rattle.fzn_reader.specs.Numbers.{number_in}
+use Rattle.fzn_reader.specs.Exprs.{begins}
+use Rattle.fzn_reader.specs.Sets.{number_by, number_at, range_at, one_number, braces_at}
+use Rattle.fzn_reader.specs.Types.{named_set, room_at, set_by, set_at}
+use Rattle.fzn_reader.specs.Scalars.{takes_numbers, named_term, fitting_term, scalar_by, scalar_at, limited}
+use Rattle.fzn_reader.specs.Lists.{has_room, one_element, elements_at}
 use Rattle.fzn_parser.specs.Grammar.{Number, Mark, Range, Braces, Name, Element, Elements}
 use Rattle.fzn_parser.specs.Laws.{Reads}
-use Rattle.fzn_parser.proofs.Lawful.{IsLawful, after, is_ok, refused, onward, given, next, finish, widen, wider, choice, mark_law, nothing_read}
+use Rattle.fzn_parser.proofs.Lawful.{IsLawful, after, is_ok, refused, value_law, onward, given, next, finish, widen, wider, choice, mark_law, nothing_read}
 use Rattle.fzn_parser.proofs.ListLaws.{separated_law, elements_law}
 use Rattle.fzn_parser.proofs.BeginLaws.{Begun, begun}
 
-in_range_law : {X : List Spot → Type 0} (z : Option ℤ) (ts : List Spot) → IsWhole ts → Reads X ts (after_first ts) → IsLawful X after ts (in_range z ts)
-in_range_law None ts w r = refused code.OutOfRange ts w
-in_range_law (Some z) ts w r = is_ok _ r
-
 number_by_law : (b : Begin) (ts : List Spot) → IsWhole ts → Begun b ts → IsLawful Number after ts (number_by b ts)
-number_by_law begin.Number ts w h = in_range_law (number_in (first ts).text) ts w h
+number_by_law begin.Number ts w h = value_law code.OutOfRange (number_in (first ts).text) ts w h
 number_by_law begin.Real ts w h = refused code.Float ts w
 number_by_law b ts w h = refused code.Syntax ts w
 
@@ -66,7 +61,7 @@ name_element ts r = wider (λ us p. inr (inr (inr (inr (inr p))))) r
 set_by_law : (b : Begin) (room : Bool) (names : Names) (ts : List Spot) → IsWhole ts → Begun b ts → IsLawful Element after ts (set_by b room names ts)
 unfolding Element
 set_by_law begin.Number room names ts w r = choice (is_mark (codes "..") (after_first ts))
-    (λ h. widen (λ us p. inr (inr (inr (inl p)))) (given (in_range_law (number_in (first ts).text) ts w r) (λ low p. given (room_law room ts w) (λ x q. onward p (next (mark_law _ low.1 p.whole) (λ dots u. finish _ (number_law dots u) (λ y. refl)))))))
+    (λ h. widen (λ us p. inr (inr (inr (inl p)))) (given (value_law code.OutOfRange (number_in (first ts).text) ts w r) (λ low p. given (room_law room ts w) (λ x q. onward p (next (mark_law _ low.1 p.whole) (λ dots u. finish _ (number_law dots u) (λ y. refl)))))))
     (λ h. refused code.WrongArguments ts w)
 set_by_law begin.Real room names ts w r = refused code.Float ts w
 set_by_law (begin.Truth b) room names ts w r = refused code.WrongArguments ts w
@@ -79,18 +74,14 @@ pub set_law : (room : Bool) (names : Names) (ts : List Spot) → IsWhole ts → 
 unfolding set_at
 set_law room names ts w = set_by_law (begins ts) room names ts w (begun ts w)
 
-term_law : (t : Option Term) (ts : List Spot) → IsWhole ts → Reads Element ts (after_first ts) → IsLawful Element after ts (term_or_refuse t ts)
-term_law None ts w r = refused code.WrongArguments ts w
-term_law (Some t) ts w r = is_ok _ r
-
 named_term_law : (s : Scalar) (d : Option Decl) (ts : List Spot) → IsWhole ts → Reads Element ts (after_first ts) → IsLawful Element after ts (named_term s d ts)
 named_term_law s None ts w r = refused code.Undeclared ts w
-named_term_law s (Some d) ts w r = term_law (fitting_term s d) ts w r
+named_term_law s (Some d) ts w r = value_law code.WrongArguments (fitting_term s d) ts w r
 
 scalar_by_law : (b : Begin) (s : Scalar) (names : Names) (ts : List Spot) → IsWhole ts → Begun b ts → IsLawful Element after ts (scalar_by b s names ts)
 unfolding Element
 scalar_by_law begin.Number s names ts w r = choice (takes_numbers s && not (is_mark (codes "..") (after_first ts)))
-    (λ h. widen (λ us p. inr (inr (inl p))) (finish (λ z. (Const z.0, z.1)) (in_range_law (number_in (first ts).text) ts w r) (λ x. refl)))
+    (λ h. widen (λ us p. inr (inr (inl p))) (finish (λ z. (Const z.0, z.1)) (value_law code.OutOfRange (number_in (first ts).text) ts w r) (λ x. refl)))
     (λ h. refused code.WrongArguments ts w)
 scalar_by_law begin.Real s names ts w r = refused code.Float ts w
 scalar_by_law (begin.Truth true) s names ts w r = choice (takes_numbers s) (λ h. refused code.WrongArguments ts w) (λ h. is_ok _ (wider (λ us p. inl p) r))

@@ -8,14 +8,15 @@ use Rattle.fzn_lexer.specs.declared.kind.Kind.TheVariants as kind
 use Rattle.fzn_lexer.proofs.Whole.{whole}
 use Rattle.fzn_model.specs.declared.goal.Goal.{Goal}
 use Rattle.fzn_model.specs.Parts.{Parts}
-use Rattle.fzn_parser.specs.declared.code.Code.TheVariants as code
-use Rattle.fzn_parser.specs.declared.refused.Refused.{Refused}
-use Rattle.fzn_parser.specs.declared.parse_fault.ParseFault.{ParseFault}
-use Rattle.fzn_parser.specs.declared.parse_fault.ParseFault.TheVariants as fault
-use Rattle.fzn_parser.specs.Refusals.{◌>>=◌, is_mark, is_word, is_spelled, most, Gives}
-use Rattle.fzn_parser.specs.Drafts.{Stated, nothing}
-use Rattle.fzn_parser.specs.Annotations.{passing}
-use Rattle.fzn_parser.specs.Reading.{token_by, token_at, ends_item, predicate_at, item_at, one_item, is_end, is_end_by, items_at, model_by, reads, too_long}
+use Rattle.fzn_reader.specs.declared.code.Code.TheVariants as code
+use Rattle.fzn_reader.specs.declared.refused.Refused.{Refused}
+use Rattle.fzn_reader.specs.declared.parse_fault.ParseFault.{ParseFault}
+use Rattle.fzn_reader.specs.declared.parse_fault.ParseFault.TheVariants as fault
+use Rattle.fzn_reader.specs.Refusals.{◌>>=◌, is_mark, is_word, is_spelled, most}
+use Rattle.fzn_reader.specs.Answers.{Gives}
+use Rattle.fzn_reader.specs.Drafts.{Stated, nothing}
+use Rattle.fzn_reader.specs.Annotations.{passing}
+use Rattle.fzn_reader.specs.Reading.{token_by, token_at, ends_item, predicate_at, item_at, one_item, is_end, is_end_by, items_at, model_by, reads, too_long}
 use Rattle.fzn_parser.specs.Grammar.{◌·◌, Mark, Keyword, Token, is_token, Predicate, Item, File}
 use Rattle.fzn_parser.specs.Laws.{PointsTo, Reads, IsSpelled, IsFair, IsFairFault}
 use Rattle.fzn_parser.proofs.Lawful.{IsLawful, after, here, is_ok, refused, onward, next, finish, widen, choice, took, both, TakesTokens, mark_law, name_law, repeat_law, repeat_ends}

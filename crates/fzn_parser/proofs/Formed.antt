@@ -1,5 +1,5 @@
 -- What the grammar spells is not refused for its form: how that goes from parts to the whole.
-use Rattle.std.proofs.Common.{◌≡◌, ℕ, ◌+◌, ◌<◌, List, ◌∷◌, ◌++◌, length, Bool, true, false, cond, ◌&&◌, Result, Ok, Err, refl, sym, ap, subst, ◌∙◌, append_assoc, arith}
+use Rattle.std.proofs.Common.{◌≡◌, ℕ, ◌+◌, ◌<◌, List, ◌∷◌, ◌++◌, length, Bool, true, false, cond, ◌&&◌, Option, Some, None, Result, Ok, Err, refl, sym, ap, subst, ◌∙◌, append_assoc, arith}
 use Rattle.std.specs.Str.{bytes_eq}
 use Rattle.std.proofs.lemmas.List.{length-append}
 use Rattle.std.proofs.lemmas.Slice.Eq.{bytes_eq-Decides}
@@ -8,9 +8,9 @@ use Rattle.fzn_lexer.specs.declared.seen.Seen.{Seen}
 use Rattle.fzn_lexer.specs.declared.seen.Seen.TheVariants.{Known, End, Bad}
 use Rattle.fzn_lexer.specs.declared.kind.Kind.{Kind}
 use Rattle.fzn_lexer.specs.declared.kind.Kind.TheVariants as kind
-use Rattle.fzn_parser.specs.declared.code.Code.{Code}
-use Rattle.fzn_parser.specs.declared.refused.Refused.{Refused}
-use Rattle.fzn_parser.specs.Refusals.{◌>>=◌, refuse, is_kind, is_spelled, mark_at, word_at, name_at, most}
+use Rattle.fzn_reader.specs.declared.code.Code.{Code}
+use Rattle.fzn_reader.specs.declared.refused.Refused.{Refused}
+use Rattle.fzn_reader.specs.Refusals.{◌>>=◌, refuse, value_or, is_kind, is_spelled, mark_at, word_at, name_at, most}
 use Rattle.fzn_parser.specs.Grammar.{Token, ◌·◌, is_token, Mark, Keyword, Name}
 use Rattle.fzn_parser.specs.Laws.{is_form}
 use Rattle.fzn_parser.proofs.Lawful.{both, TakesTokens, takes_spelled, takes_name, after, here}
@@ -39,6 +39,11 @@ err_formed r e = record { ends = λ y f. absurd (cc); other = λ q f. (let s : q
 -- a refusal that does not speak of the form
 pub other_code : {A : Type 0} {v : A → List Spot} {rest : List Spot} (c : Code) (ts : List Spot) → is_form c ≡ false → IsFormed {A = A} v rest (refuse c ts)
 other_code c ts e = err_formed _ e
+
+-- what the first token stands for
+pub value_formed : {A : Type 0} (c : Code) (o : Option A) (ts rest : List Spot) → is_form c ≡ false → after_first ts ≡ rest → IsFormed {A = A × List Spot} after rest (value_or c o ts)
+value_formed c None ts rest f e = other_code c ts f
+value_formed c (Some x) ts rest f e = ok_formed _ e
 
 -- one read behind the other
 pub bind : {A B : Type 0} {v : A → List Spot} {w : B → List Spot} {mid rest : List Spot} {read : Result A Refused} {f : A → Result B Refused} → IsFormed v mid read → ((x : A) → v x ≡ mid → IsFormed w rest (f x)) → IsFormed w rest (read >>= f)

@@ -3,15 +3,15 @@ use Rattle.std.proofs.Common.{◌≡◌, ℕ, zero, suc, ◌<◌, List, ◌++◌
 use Rattle.std.specs.Str.{bytes_eq}
 use Rattle.fzn_lexer.specs.Spots.{Spot, first, after_first}
 use Rattle.fzn_lexer.specs.declared.kind.Kind.TheVariants as kind
-use Rattle.fzn_parser.specs.declared.ann_begin.AnnBegin.{AnnBegin}
-use Rattle.fzn_parser.specs.declared.ann_begin.AnnBegin.TheVariants as ann
-use Rattle.fzn_parser.specs.declared.begin.Begin.{Begin}
-use Rattle.fzn_parser.specs.declared.begin.Begin.TheVariants as begin
-use Rattle.fzn_parser.specs.declared.code.Code.TheVariants as code
-use Rattle.fzn_parser.specs.declared.refused.Refused.{Refused}
-use Rattle.fzn_parser.specs.Refusals.{is_kind, is_mark, most, refuse}
-use Rattle.fzn_parser.specs.Exprs.{begins}
-use Rattle.fzn_parser.specs.Annotations.{ann_begins, ann_begins_by, any_number_at, ann_number_at, Group, ann_with, annexpr_by, passing, group_with, annexpr_at, group_at, ann_at, no_annotation, annotation_at, annotations_at}
+use Rattle.fzn_reader.specs.declared.ann_begin.AnnBegin.{AnnBegin}
+use Rattle.fzn_reader.specs.declared.ann_begin.AnnBegin.TheVariants as ann
+use Rattle.fzn_reader.specs.declared.begin.Begin.{Begin}
+use Rattle.fzn_reader.specs.declared.begin.Begin.TheVariants as begin
+use Rattle.fzn_reader.specs.declared.code.Code.TheVariants as code
+use Rattle.fzn_reader.specs.declared.refused.Refused.{Refused}
+use Rattle.fzn_reader.specs.Refusals.{is_kind, is_mark, most, refuse}
+use Rattle.fzn_reader.specs.Exprs.{begins}
+use Rattle.fzn_reader.specs.Annotations.{ann_begins, ann_begins_by, any_number_at, ann_number_at, Group, ann_with, annexpr_by, passing, group_with, annexpr_at, group_at, ann_at, no_annotation, annotation_at, annotations_at}
 use Rattle.fzn_parser.specs.Grammar.{◌·◌, ◌∣◌, Optional, Mark, Name, Number, Separated, Leaf, AnnOver, AnnExpr, Ann, Annotations}
 use Rattle.fzn_parser.proofs.Lawful.{both, takes_spelled, takes_kind, takes_leaf, takes_name, after, here}
 use Rattle.fzn_parser.proofs.AnnLaws.{left_out}

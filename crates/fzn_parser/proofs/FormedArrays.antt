@@ -3,19 +3,19 @@ use Rattle.std.proofs.Common.{◌≡◌, ℕ, ◌+◌, List, ◌++◌, length, t
 use Rattle.std.specs.Str.{bytes_eq}
 use Rattle.fzn_lexer.specs.Spots.{Spot, first, after_first}
 use Rattle.fzn_lexer.specs.declared.kind.Kind.TheVariants as kind
-use Rattle.fzn_parser.specs.declared.code.Code.TheVariants as code
-use Rattle.fzn_parser.specs.declared.par_type.ParType.{ParType as ParTypeValue}
-use Rattle.fzn_parser.specs.declared.par_type.ParType.TheVariants as par
-use Rattle.fzn_parser.specs.declared.scalar.Scalar.{Scalar}
-use Rattle.fzn_parser.specs.declared.scalar.Scalar.TheVariants.{IntConst, BoolConst}
-use Rattle.fzn_parser.specs.declared.refused.Refused.{Refused}
-use Rattle.fzn_parser.specs.Refusals.{◌>>=◌, is_mark, is_word, is_spelled, mark_at}
-use Rattle.fzn_parser.specs.Names.{Names}
-use Rattle.fzn_parser.specs.Lists.{has_room}
-use Rattle.fzn_parser.specs.Drafts.{Stated}
-use Rattle.fzn_parser.specs.Types.{set_at}
-use Rattle.fzn_parser.specs.Outputs.{array_ann, with_ranges, shaped, index_ranges_at}
-use Rattle.fzn_parser.specs.Items.{term_need, one_at, length_at, opening_at, closing_at, list_at, one_set, sets_at, values_by, parameters_at, variables_at, array_at}
+use Rattle.fzn_reader.specs.declared.code.Code.TheVariants as code
+use Rattle.fzn_reader.specs.declared.par_type.ParType.{ParType as ParTypeValue}
+use Rattle.fzn_reader.specs.declared.par_type.ParType.TheVariants as par
+use Rattle.fzn_reader.specs.declared.scalar.Scalar.{Scalar}
+use Rattle.fzn_reader.specs.declared.scalar.Scalar.TheVariants.{IntConst, BoolConst}
+use Rattle.fzn_reader.specs.declared.refused.Refused.{Refused}
+use Rattle.fzn_reader.specs.Refusals.{◌>>=◌, is_mark, is_word, is_spelled, mark_at}
+use Rattle.fzn_reader.specs.Names.{Names}
+use Rattle.fzn_reader.specs.Lists.{has_room}
+use Rattle.fzn_reader.specs.Drafts.{Stated}
+use Rattle.fzn_reader.specs.Types.{set_at}
+use Rattle.fzn_reader.specs.Outputs.{array_ann, with_ranges, shaped, index_ranges_at}
+use Rattle.fzn_reader.specs.Items.{term_need, one_at, length_at, opening_at, closing_at, list_at, one_set, sets_at, values_by, parameters_at, variables_at, array_at}
 use Rattle.fzn_parser.specs.Grammar.{◌·◌, Token, Mark, Keyword, Name, ParType, VarType, Elements, ListOf, Ann, Annotations, Length, ElementType, Array}
 use Rattle.fzn_parser.proofs.Lawful.{takes_spelled, after, here}
 use Rattle.fzn_parser.proofs.ListLaws.{regroup}

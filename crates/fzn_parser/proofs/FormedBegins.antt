@@ -6,10 +6,10 @@ use Rattle.fzn_lexer.specs.Spots.{Spot, first, after_first}
 use Rattle.fzn_lexer.specs.declared.seen.Seen.TheVariants.{Known}
 use Rattle.fzn_lexer.specs.declared.kind.Kind.{Kind}
 use Rattle.fzn_lexer.specs.declared.kind.Kind.TheVariants as kind
-use Rattle.fzn_parser.specs.declared.begin.Begin.{Begin}
-use Rattle.fzn_parser.specs.declared.begin.Begin.TheVariants as begin
-use Rattle.fzn_parser.specs.Refusals.{is_kind, is_mark, is_word, is_reserved, most}
-use Rattle.fzn_parser.specs.Exprs.{begins, token_begins}
+use Rattle.fzn_reader.specs.declared.begin.Begin.{Begin}
+use Rattle.fzn_reader.specs.declared.begin.Begin.TheVariants as begin
+use Rattle.fzn_reader.specs.Refusals.{is_kind, is_mark, is_word, is_reserved, most}
+use Rattle.fzn_reader.specs.Exprs.{begins, token_begins}
 use Rattle.fzn_parser.specs.Grammar.{◌·◌, ◌∣◌, Mark, Keyword, Name, Number, Range, Braces, Element, ListOf, Expr}
 use Rattle.fzn_parser.proofs.Lawful.{both, takes_spelled, takes_kind, takes_name}
 use Rattle.fzn_parser.proofs.Formed.{Spelled, at_front, split, taken, seen_is, text_is, other_kind, other_text}

@@ -1,42 +1,36 @@
 -- Constraints, and what is sought: what the grammar spells is read to its end, or refused for another reason than its form.
 use Rattle.std.proofs.Common.{◌≡◌, ℕ, ◌<◌, List, [], ◌++◌, Bool, true, false, cond, Option, Some, None, length, refl, inl, inr, codes, is_some, is_none, nat_lt}
-use Rattle.std.specs.Prelude.{slice_get}
+use Rattle.std.specs.Prelude.{option_map, slice_get}
 use Rattle.fzn_lexer.specs.Spots.{Spot, first, after_first}
 use Rattle.fzn_lexer.specs.declared.kind.Kind.TheVariants as kind
-use Rattle.fzn_model.specs.declared.term.Term.{Term}
-use Rattle.fzn_model.specs.declared.con.Con.{Con}
 use Rattle.fzn_model.specs.declared.goal.Goal.TheVariants as goal
 use Rattle.fzn_builtin.specs.declared.needs.Need.{Need}
 use Rattle.fzn_builtin.specs.declared.needs.Need.TheVariants as need
 use Rattle.fzn_builtin.specs.Builtins.{numbered, needs_of, shape_of}
-use Rattle.fzn_builtin.specs.Made as built_of
-use Rattle.fzn_parser.specs.declared.code.Code.TheVariants as code
-use Rattle.fzn_parser.specs.declared.decl.Decl.{Decl}
-use Rattle.fzn_parser.specs.declared.scalar.Scalar.{Scalar}
-use Rattle.fzn_parser.specs.declared.scalar.Scalar.TheVariants.{IntConst, IntTerm, BoolConst, BoolTerm}
-use Rattle.fzn_parser.specs.Refusals.{is_kind, is_mark, is_word, most}
-use Rattle.fzn_parser.specs.Names.{Names, find_name}
-use Rattle.fzn_parser.specs.Exprs.{begins}
-use Rattle.fzn_parser.specs.Drafts.{Stated}
-use Rattle.fzn_parser.specs.Constraints.{misfit, fitting_list, list_or_refuse, named_list, written_list, list_by, list_arg_at, Args, arg_by, needed_by, one_arg, is_whole, built, built_at, known, call_at, constraint_at}
-use Rattle.fzn_parser.specs.Solving.{solve_ann, goal_at, solve_at}
+use Rattle.fzn_builtin.specs.Constraints.{constraint_of}
+use Rattle.fzn_reader.specs.declared.code.Code.TheVariants as code
+use Rattle.fzn_reader.specs.declared.decl.Decl.{Decl}
+use Rattle.fzn_reader.specs.declared.scalar.Scalar.{Scalar}
+use Rattle.fzn_reader.specs.declared.scalar.Scalar.TheVariants.{IntConst, IntTerm, BoolConst, BoolTerm}
+use Rattle.fzn_reader.specs.Refusals.{is_kind, is_mark, is_word, most}
+use Rattle.fzn_reader.specs.Names.{Names, find_name}
+use Rattle.fzn_reader.specs.Exprs.{begins}
+use Rattle.fzn_reader.specs.Drafts.{Stated}
+use Rattle.fzn_reader.specs.Constraints.{misfit, fitting_list, named_list, written_list, list_by, list_arg_at, Args, arg_by, needed_by, one_arg, is_argument_count, built_at, known, call_at, constraint_at}
+use Rattle.fzn_reader.specs.Solving.{solve_ann, goal_at, solve_at}
 use Rattle.fzn_parser.specs.Grammar.{◌·◌, ◌∣◌, Mark, Keyword, ListOf, Expr, Ann, Call, Constraint, Solve}
 use Rattle.fzn_parser.specs.Laws.{is_form}
 use Rattle.fzn_parser.proofs.Lawful.{both, takes_spelled, after}
-use Rattle.fzn_parser.proofs.Formed.{Spelled, at_front, IsFormed, ok_formed, other_code, bind, made, chosen, passed, either, seq, taken, mark_formed, name_formed, behind_token, other_kind}
+use Rattle.fzn_parser.proofs.Formed.{Spelled, at_front, IsFormed, ok_formed, other_code, value_formed, bind, made, chosen, passed, either, seq, taken, mark_formed, name_formed, behind_token, other_kind}
 use Rattle.fzn_parser.proofs.FormedLists.{Follows, separated_formed}
 use Rattle.fzn_parser.proofs.FormedBegins.{IsExpr, truth, number, range, braces, name, bracket, is_expr, expr_opens}
 use Rattle.fzn_parser.proofs.FormedExprs.{set_formed, scalar_formed, terms_formed}
 use Rattle.fzn_parser.proofs.FormedAnns.{ann_formed, passed_formed, annotations_formed}
 use Rattle.fzn_parser.proofs.FormedDecls.{worded, no_word, annotated}
 
-list_or_formed : (terms : Option (List Term)) (used : ℕ) (ts rest : List Spot) → after_first ts ≡ rest → IsFormed after rest (list_or_refuse terms used ts)
-list_or_formed None used ts rest e = other_code code.WrongArguments ts refl
-list_or_formed (Some terms) used ts rest e = ok_formed _ e
-
 named_list_formed : (s : Scalar) (d : Option Decl) (used : ℕ) (ts rest : List Spot) → after_first ts ≡ rest → IsFormed after rest (named_list s d used ts)
 named_list_formed s None used ts rest e = other_code code.Undeclared ts refl
-named_list_formed s (Some d) used ts rest e = list_or_formed (fitting_list s d) used ts rest e
+named_list_formed s (Some d) used ts rest e = value_formed code.WrongArguments (option_map (λ terms. (terms, used)) (fitting_list s d)) ts rest refl e
 
 written_formed : (s : Scalar) (names : Names) (used : ℕ) (ts rest : List Spot) → Spelled ListOf ts rest → IsFormed after rest (written_list s names used ts)
 unfolding written_list ListOf
@@ -86,14 +80,10 @@ one_arg_formed : (builtin : ℕ) (names : Names) (done : Args) (ts rest : List S
 unfolding one_arg
 one_arg_formed builtin names done ts rest p f = made _ (needed_formed (slice_get (needs_of builtin) (length done.0)) names done.1 ts rest p f) (λ x. refl)
 
-built_formed : (c : Option Con) (used : ℕ) (ts rest : List Spot) → after_first ts ≡ rest → IsFormed after rest (built c used ts)
-built_formed None used ts rest e = other_code code.Lengths ts refl
-built_formed (Some c) used ts rest e = ok_formed _ e
-
 built_at_formed : (builtin : ℕ) (args : Args) (ts rest : List Spot) → Spelled (Mark (codes ")")) ts rest → IsFormed after rest (built_at builtin args ts)
 unfolding built_at
 built_at_formed builtin args ts rest p = let q = taken (takes_spelled kind.Mark (codes ")")) p in
-    chosen (is_mark (codes ")") ts) _ q.passes (either (is_whole builtin (length args.0)) (λ h. built_formed (built_of.made (shape_of builtin) args.0) args.1 ts rest q.behind) (λ h. other_code code.WrongArguments ts refl))
+    chosen (is_mark (codes ")") ts) _ q.passes (either (is_argument_count builtin (length args.0)) (λ h. value_formed code.Lengths (option_map (λ c. (c, args.1)) (constraint_of (shape_of builtin) args.0)) ts rest refl q.behind) (λ h. other_code code.WrongArguments ts refl))
 
 known_formed : {rest : List Spot} (b : Option ℕ) (ts : List Spot) → IsFormed (λ x. rest) rest (known b ts)
 known_formed None ts = other_code code.UnknownConstraint ts refl

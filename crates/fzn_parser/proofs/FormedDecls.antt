@@ -5,21 +5,21 @@ use Rattle.fzn_lexer.specs.Spots.{Spot, first, after_first}
 use Rattle.fzn_lexer.specs.declared.seen.Seen.TheVariants.{Known}
 use Rattle.fzn_lexer.specs.declared.kind.Kind.{Kind}
 use Rattle.fzn_lexer.specs.declared.kind.Kind.TheVariants as kind
-use Rattle.fzn_parser.specs.declared.code.Code.TheVariants as code
-use Rattle.fzn_parser.specs.declared.par_type.ParType.{ParType as ParTypeValue}
-use Rattle.fzn_parser.specs.declared.par_type.ParType.TheVariants as par
-use Rattle.fzn_parser.specs.declared.scalar.Scalar.{Scalar}
-use Rattle.fzn_parser.specs.declared.scalar.Scalar.TheVariants.{IntConst, BoolConst}
-use Rattle.fzn_parser.specs.declared.refused.Refused.{Refused}
-use Rattle.fzn_parser.specs.Refusals.{is_kind, is_mark, is_word, most}
-use Rattle.fzn_parser.specs.Names.{Names, find_name}
-use Rattle.fzn_parser.specs.Exprs.{begins}
-use Rattle.fzn_parser.specs.Drafts.{Stated}
-use Rattle.fzn_parser.specs.Types.{partype_at, vartype_at, set_type_by, new_name_at}
-use Rattle.fzn_parser.specs.Outputs.{variable_ann}
-use Rattle.fzn_parser.specs.Items.{value_by, parameter_at, term_need, initialiser_at, variable_at}
+use Rattle.fzn_reader.specs.declared.code.Code.TheVariants as code
+use Rattle.fzn_reader.specs.declared.par_type.ParType.{ParType as ParTypeValue}
+use Rattle.fzn_reader.specs.declared.par_type.ParType.TheVariants as par
+use Rattle.fzn_reader.specs.declared.scalar.Scalar.{Scalar}
+use Rattle.fzn_reader.specs.declared.scalar.Scalar.TheVariants.{IntConst, BoolConst}
+use Rattle.fzn_reader.specs.declared.refused.Refused.{Refused}
+use Rattle.fzn_reader.specs.Refusals.{is_kind, is_mark, is_word, most}
+use Rattle.fzn_reader.specs.Names.{Names, find_name}
+use Rattle.fzn_reader.specs.Exprs.{begins}
+use Rattle.fzn_reader.specs.Drafts.{Stated}
+use Rattle.fzn_reader.specs.Types.{partype_at, vartype_at, set_type_by, new_name_at}
+use Rattle.fzn_reader.specs.Outputs.{variable_ann}
+use Rattle.fzn_reader.specs.Items.{value_by, parameter_at, term_need, initialiser_at, variable_at}
 use Rattle.fzn_parser.specs.Grammar.{◌·◌, ◌∣◌, Optional, Mark, Keyword, Name, Range, Braces, ParType, VarType, Expr, Ann, Annotations, Parameter, Variable}
-use Rattle.fzn_parser.specs.Annotations.{annotations_at}
+use Rattle.fzn_reader.specs.Annotations.{annotations_at}
 use Rattle.fzn_parser.proofs.Lawful.{both, takes_spelled, takes_kind, after}
 use Rattle.fzn_parser.proofs.Formed.{Spelled, at_front, IsFormed, ok_formed, other_code, bind, made, chosen, passed, either, split, seq, taken, mark_formed, word_formed, name_formed, behind_token, other_kind, other_text}
 use Rattle.fzn_parser.proofs.FormedLists.{Follows, follows_mark, marked}

@@ -2,34 +2,29 @@
 use Rattle.std.proofs.Common.{◌≡◌, ℕ, ◌+◌, List, [], ◌∷◌, ◌++◌, length, Bool, true, false, ◌&&◌, not, Option, Some, None, Result, refl, sym, ap, subst, inl, codes, ℤ}
 use Rattle.fzn_lexer.specs.Spots.{Spot, first, after_first}
 use Rattle.fzn_lexer.specs.declared.kind.Kind.TheVariants as kind
-use Rattle.fzn_model.specs.declared.term.Term.{Term}
 use Rattle.fzn_model.specs.declared.term.Term.TheVariants.{Const}
-use Rattle.fzn_parser.specs.declared.code.Code.TheVariants as code
-use Rattle.fzn_parser.specs.declared.decl.Decl.{Decl}
-use Rattle.fzn_parser.specs.declared.decl.Decl.TheVariants as decl
-use Rattle.fzn_parser.specs.declared.scalar.Scalar.{Scalar}
-use Rattle.fzn_parser.specs.declared.refused.Refused.{Refused}
-use Rattle.fzn_parser.specs.Refusals.{is_mark}
-use Rattle.fzn_parser.specs.Names.{Names, find_name}
-use Rattle.fzn_parser.specs.Numbers.{number_in}
-use Rattle.fzn_parser.specs.Exprs.{begins}
-use Rattle.fzn_parser.specs.Sets.{in_range, number_at, range_at, one_number, braces_at}
-use Rattle.fzn_parser.specs.Types.{named_set, room_at, set_by, set_at}
-use Rattle.fzn_parser.specs.Scalars.{takes_numbers, term_or_refuse, named_term, fitting_term, scalar_by, scalar_at, limited}
-use Rattle.fzn_parser.specs.Lists.{has_room, one_element, elements_at}
+use Rattle.fzn_reader.specs.declared.code.Code.TheVariants as code
+use Rattle.fzn_reader.specs.declared.decl.Decl.{Decl}
+use Rattle.fzn_reader.specs.declared.decl.Decl.TheVariants as decl
+use Rattle.fzn_reader.specs.declared.scalar.Scalar.{Scalar}
+use Rattle.fzn_reader.specs.declared.refused.Refused.{Refused}
+use Rattle.fzn_reader.specs.Refusals.{is_mark}
+use Rattle.fzn_reader.specs.Names.{Names, find_name}
+use Rattle.fzn_reader.specs.Numbers.{number_in}
+use Rattle.fzn_reader.specs.Exprs.{begins}
+use Rattle.fzn_reader.specs.Sets.{number_at, range_at, one_number, braces_at}
+use Rattle.fzn_reader.specs.Types.{named_set, room_at, set_by, set_at}
+use Rattle.fzn_reader.specs.Scalars.{takes_numbers, named_term, fitting_term, scalar_by, scalar_at, limited}
+use Rattle.fzn_reader.specs.Lists.{has_room, one_element, elements_at}
 use Rattle.fzn_parser.specs.Grammar.{◌·◌, Number, Mark, Range, Braces, Element, Elements, Expr}
 use Rattle.fzn_parser.proofs.Lawful.{takes_kind, takes_spelled, after}
-use Rattle.fzn_parser.proofs.Formed.{Spelled, IsFormed, ok_formed, other_code, bind, made, chosen, passed, either, seq, taken, mark_formed, behind_token, narrow}
+use Rattle.fzn_parser.proofs.Formed.{Spelled, IsFormed, ok_formed, other_code, value_formed, bind, made, chosen, passed, either, seq, taken, mark_formed, behind_token, narrow}
 use Rattle.fzn_parser.proofs.FormedLists.{Follows, marked, separated_formed, elements_formed}
 use Rattle.fzn_parser.proofs.FormedBegins.{begins_kind_number, number_opens, IsExpr, truth, number, range, braces, name, bracket, is_expr, element_opens, element_some}
 
-in_range_formed : (z : Option ℤ) (ts rest : List Spot) → after_first ts ≡ rest → IsFormed after rest (in_range z ts)
-in_range_formed None ts rest e = other_code code.OutOfRange ts refl
-in_range_formed (Some z) ts rest e = ok_formed _ e
-
 pub number_formed : (ts rest : List Spot) → Spelled Number ts rest → IsFormed after rest (number_at ts)
 unfolding number_at
-number_formed ts rest p = let q = taken (takes_kind kind.Number) p in rw (begins_kind_number ts q.passes) (in_range_formed (number_in (first ts).text) ts rest q.behind)
+number_formed ts rest p = let q = taken (takes_kind kind.Number) p in rw (begins_kind_number ts q.passes) (value_formed code.OutOfRange (number_in (first ts).text) ts rest refl q.behind)
 
 pub range_formed : (ts rest : List Spot) → Spelled Range ts rest → IsFormed after rest (range_at ts)
 unfolding range_at
@@ -62,7 +57,7 @@ set_by_formed : (room : Bool) (names : Names) (ts rest : List Spot) → IsExpr t
 set_by_formed room names ts rest (truth b e p) f = rw e (other_code code.WrongArguments ts refl)
 set_by_formed room names ts rest (number e p) f = rw e (passed (is_mark (codes "..") (after_first ts)) _ (no_dots ts rest p f) (other_code code.WrongArguments ts refl))
 set_by_formed room names ts rest (range e p) f = let q = behind_token (takes_kind kind.Number) p in
-    rw e (chosen (is_mark (codes "..") (after_first ts)) _ (marked (codes "..") q) (bind (in_range_formed (number_in (first ts).text) ts (after_first ts) refl) (λ low g. bind (room_formed {rest = rest} room ts) (λ x h.
+    rw e (chosen (is_mark (codes "..") (after_first ts)) _ (marked (codes "..") q) (bind (value_formed code.OutOfRange (number_in (first ts).text) ts (after_first ts) refl refl) (λ low g. bind (room_formed {rest = rest} room ts) (λ x h.
     seq (subst (λ (us : List Spot). Spelled (Mark (codes "..") · Number) us rest) (sym g) q) (λ mid a b. mark_formed _ low.1 mid a) (λ dots r. made _ (number_formed dots rest r) (λ y. refl))))))
 set_by_formed room names ts rest (braces e p) f = rw e (bind (room_formed {rest = rest} room ts) (λ x h. braces_formed ts rest p))
 set_by_formed room names ts rest (name e p) f = rw e (named_set_formed room (find_name names (first ts).text) ts rest p)
@@ -72,17 +67,13 @@ pub set_formed : (room : Bool) (names : Names) (ts rest : List Spot) → Spelled
 unfolding set_at
 set_formed room names ts rest p f = set_by_formed room names ts rest (is_expr ts rest p) f
 
-term_formed : (t : Option Term) (ts rest : List Spot) → after_first ts ≡ rest → IsFormed after rest (term_or_refuse t ts)
-term_formed None ts rest e = other_code code.WrongArguments ts refl
-term_formed (Some t) ts rest e = ok_formed _ e
-
 named_term_formed : (s : Scalar) (d : Option Decl) (ts rest : List Spot) → after_first ts ≡ rest → IsFormed after rest (named_term s d ts)
 named_term_formed s None ts rest e = other_code code.Undeclared ts refl
-named_term_formed s (Some d) ts rest e = term_formed (fitting_term s d) ts rest e
+named_term_formed s (Some d) ts rest e = value_formed code.WrongArguments (fitting_term s d) ts rest refl e
 
 scalar_by_formed : (s : Scalar) (names : Names) (ts rest : List Spot) → IsExpr ts rest → IsFormed after rest (scalar_by (begins ts) s names ts)
 scalar_by_formed s names ts rest (truth b e p) = rw e (either (takes_numbers s) (λ h. other_code code.WrongArguments ts refl) (λ h. ok_formed _ p))
-scalar_by_formed s names ts rest (number e p) = rw e (either (takes_numbers s && not (is_mark (codes "..") (after_first ts))) (λ h. made (λ z. (Const z.0, z.1)) (in_range_formed (number_in (first ts).text) ts rest p) (λ x. refl)) (λ h. other_code code.WrongArguments ts refl))
+scalar_by_formed s names ts rest (number e p) = rw e (either (takes_numbers s && not (is_mark (codes "..") (after_first ts))) (λ h. made (λ z. (Const z.0, z.1)) (value_formed code.OutOfRange (number_in (first ts).text) ts rest refl p) (λ x. refl)) (λ h. other_code code.WrongArguments ts refl))
 scalar_by_formed s names ts rest (range e p) = rw e (passed (takes_numbers s && not (is_mark (codes "..") (after_first ts))) _ (never (takes_numbers s) _ (marked (codes "..") (behind_token (takes_kind kind.Number) p))) (other_code code.WrongArguments ts refl))
   where
     never : (a b : Bool) → b ≡ true → (a && not b) ≡ false

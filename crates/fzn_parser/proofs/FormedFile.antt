@@ -14,14 +14,15 @@ use Rattle.fzn_lexer.specs.declared.kind.Kind.{Kind}
 use Rattle.fzn_lexer.specs.declared.kind.Kind.TheVariants as kind
 use Rattle.fzn_model.specs.declared.goal.Goal.{Goal}
 use Rattle.fzn_model.specs.Parts.{Parts}
-use Rattle.fzn_parser.specs.declared.code.Code.TheVariants as code
-use Rattle.fzn_parser.specs.declared.refused.Refused.{Refused}
-use Rattle.fzn_parser.specs.declared.parse_fault.ParseFault.{ParseFault}
-use Rattle.fzn_parser.specs.declared.parse_fault.ParseFault.TheVariants as fault
-use Rattle.fzn_parser.specs.Refusals.{◌>>=◌, is_kind, is_mark, is_word, most, Gives}
-use Rattle.fzn_parser.specs.Drafts.{Stated, nothing}
-use Rattle.fzn_parser.specs.Annotations.{passing}
-use Rattle.fzn_parser.specs.Reading.{token_by, token_at, ends_item, predicate_at, item_at, one_item, is_end, is_end_by, items_at, model_by, reads, too_long}
+use Rattle.fzn_reader.specs.declared.code.Code.TheVariants as code
+use Rattle.fzn_reader.specs.declared.refused.Refused.{Refused}
+use Rattle.fzn_reader.specs.declared.parse_fault.ParseFault.{ParseFault}
+use Rattle.fzn_reader.specs.declared.parse_fault.ParseFault.TheVariants as fault
+use Rattle.fzn_reader.specs.Refusals.{◌>>=◌, is_kind, is_mark, is_word, most}
+use Rattle.fzn_reader.specs.Answers.{Gives}
+use Rattle.fzn_reader.specs.Drafts.{Stated, nothing}
+use Rattle.fzn_reader.specs.Annotations.{passing}
+use Rattle.fzn_reader.specs.Reading.{token_by, token_at, ends_item, predicate_at, item_at, one_item, is_end, is_end_by, items_at, model_by, reads, too_long}
 use Rattle.fzn_parser.specs.Grammar.{◌·◌, ◌∣◌, Mark, Token, is_token, ParType, Predicate, Parameter, Variable, Array, Constraint, Solve, Item, File}
 use Rattle.fzn_parser.specs.Laws.{IsSpelled, is_form, IsBeyondForm}
 use Rattle.fzn_parser.proofs.Lawful.{both, takes_spelled, after, here}

@@ -4,9 +4,9 @@ use Rattle.std.specs.Str.{bytes_eq}
 use Rattle.std.proofs.lemmas.List.{length-append}
 use Rattle.fzn_lexer.specs.Spots.{Spot, first}
 use Rattle.fzn_lexer.specs.declared.kind.Kind.TheVariants as kind
-use Rattle.fzn_parser.specs.declared.refused.Refused.{Refused}
-use Rattle.fzn_parser.specs.Refusals.{◌>>=◌, is_mark, separator_at, repeat, most, no_comma, next_at, more_at, separated_at}
-use Rattle.fzn_parser.specs.Lists.{ends_list}
+use Rattle.fzn_reader.specs.declared.refused.Refused.{Refused}
+use Rattle.fzn_reader.specs.Refusals.{◌>>=◌, is_mark, separator_at, repeat, most, no_comma, next_at, more_at, separated_at}
+use Rattle.fzn_reader.specs.Lists.{ends_list}
 use Rattle.fzn_parser.specs.Grammar.{Token, ◌·◌, Many, none, more, last, Mark, Separated, Element, Elements}
 use Rattle.fzn_parser.proofs.Lawful.{takes_spelled, after, here}
 use Rattle.fzn_parser.proofs.ListLaws.{regroup, kept}

@@ -1,14 +1,14 @@
 -- What each function of reading promises of a rule, and how it goes from parts to the whole.
-use Rattle.std.proofs.Common.{◌≡◌, ℕ, zero, suc, List, [], ◌∷◌, ◌++◌, Bool, true, false, cond, ◌&&◌, ◌||◌, not, Result, Ok, Err, refl, sym, ap, subst, ◌∙◌, append_assoc, arith, Any}
+use Rattle.std.proofs.Common.{◌≡◌, ℕ, zero, suc, List, [], ◌∷◌, ◌++◌, Bool, true, false, cond, ◌&&◌, ◌||◌, not, Option, Some, None, Result, Ok, Err, refl, sym, ap, subst, ◌∙◌, append_assoc, arith, Any}
 use Rattle.fzn_lexer.specs.Spots.{Spot, first, after_first, rest_by, whole_by, IsWhole}
 use Rattle.fzn_lexer.specs.declared.seen.Seen.{Seen}
 use Rattle.fzn_lexer.specs.declared.seen.Seen.TheVariants.{Known, End, Bad}
 use Rattle.fzn_lexer.specs.declared.kind.Kind.{Kind}
 use Rattle.fzn_lexer.specs.declared.kind.Kind.TheVariants as kind
-use Rattle.fzn_parser.specs.declared.code.Code.{Code}
-use Rattle.fzn_parser.specs.declared.code.Code.TheVariants as code
-use Rattle.fzn_parser.specs.declared.refused.Refused.{Refused}
-use Rattle.fzn_parser.specs.Refusals.{◌>>=◌, refusal, is_kind, is_spelled, is_reserved, mark_at, word_at, name_at, repeat}
+use Rattle.fzn_reader.specs.declared.code.Code.{Code}
+use Rattle.fzn_reader.specs.declared.code.Code.TheVariants as code
+use Rattle.fzn_reader.specs.declared.refused.Refused.{Refused}
+use Rattle.fzn_reader.specs.Refusals.{◌>>=◌, refusal, value_or, is_kind, is_spelled, is_reserved, mark_at, word_at, name_at, repeat}
 use Rattle.fzn_parser.specs.Grammar.{Token, ◌·◌, Many, none, more, is_token, Mark, Keyword, Name}
 use Rattle.fzn_parser.specs.Laws.{PointsTo, Reads}
 
@@ -73,6 +73,11 @@ wider h r = record { front = r.front; spelled = h r.front r.spelled; joined = r.
 
 pub widen : {A : Type 0} {X Y : List Spot → Type 0} {v : A → List Spot} {ts : List Spot} {read : Result A Refused} → ((us : List Spot) → X us → Y us) → IsLawful X v ts read → IsLawful Y v ts read
 widen h p = record { reads = λ y e. wider h (p.reads y e); fair = p.fair }
+
+-- what the first token stands for
+pub value_law : {A : Type 0} {X : List Spot → Type 0} (c : Code) (o : Option A) (ts : List Spot) → IsWhole ts → Reads X ts (after_first ts) → IsLawful X after ts (value_or c o ts)
+value_law c None ts w r = refused c ts w
+value_law c (Some x) ts w r = is_ok _ r
 
 -- by a test
 pub choice : {A : Type 0} {X : List Spot → Type 0} {v : A → List Spot} {ts : List Spot} {x y : Result A Refused} (b : Bool) → (b ≡ true → IsLawful X v ts x) → (b ≡ false → IsLawful X v ts y) → IsLawful X v ts (cond b x y)

@@ -1,15 +1,3 @@
-pub mod InHand
-pub mod Repeat
-pub mod Capped
-pub mod NamesSeen
-pub mod RunLemmas
-pub mod Wider
-pub mod DraftKept
-pub mod ScalarLemmas
-pub mod ListLemmas
-pub mod AnnLemmas
-pub mod VariableLemmas
-pub mod ArgLemmas
 pub mod Lawful
 pub mod ListLaws
 pub mod BeginLaws
@@ -28,4 +16,3 @@ pub mod FormedDecls
 pub mod FormedArrays
 pub mod FormedCalls
 pub mod FormedFile
-pub mod SearchLemmas

@@ -2,10 +2,10 @@
 use Rattle.std.proofs.Common.{◌≡◌, ℕ, zero, suc, List, [], ◌++◌, Bool, true, false, cond, Result, Ok, Err, refl, sym, ap, subst, ◌∙◌, inl, inr, codes}
 use Rattle.std.proofs.lemmas.List.{append-nil}
 use Rattle.fzn_lexer.specs.Spots.{Spot, IsWhole}
-use Rattle.fzn_parser.specs.declared.code.Code.TheVariants as code
-use Rattle.fzn_parser.specs.declared.refused.Refused.{Refused}
-use Rattle.fzn_parser.specs.Refusals.{◌>>=◌, is_mark, mark_at, separator_at, repeat, most, next_at, more_at, separated_at}
-use Rattle.fzn_parser.specs.Lists.{ends_list}
+use Rattle.fzn_reader.specs.declared.code.Code.TheVariants as code
+use Rattle.fzn_reader.specs.declared.refused.Refused.{Refused}
+use Rattle.fzn_reader.specs.Refusals.{◌>>=◌, is_mark, mark_at, separator_at, repeat, most, next_at, more_at, separated_at}
+use Rattle.fzn_reader.specs.Lists.{ends_list}
 use Rattle.fzn_parser.specs.Grammar.{◌·◌, Many, Separated, Mark, Element, Elements, none, last, more}
 use Rattle.fzn_parser.specs.Laws.{Reads}
 use Rattle.fzn_parser.proofs.Lawful.{IsLawful, after, is_ok, refused, onward, given, next, widen, choice, nothing_read, mark_law, repeat_law, repeat_stopped}

@@ -5,7 +5,7 @@ use Rattle.fzn_lexer.specs.Spots.{Spot}
 use Rattle.fzn_lexer.specs.declared.seen.Seen.{Seen}
 use Rattle.fzn_lexer.specs.declared.seen.Seen.TheVariants.{Known, End, Bad}
 use Rattle.fzn_lexer.specs.declared.kind.Kind.TheVariants as kind
-use Rattle.fzn_parser.specs.Refusals.{is_kind, is_spelled, is_reserved}
+use Rattle.fzn_reader.specs.Refusals.{is_kind, is_spelled, is_reserved}
 
 -- one token that passes
 pub record Token (test : Spot → Bool) (ts : List Spot) : Type 0 where

@@ -4,12 +4,12 @@ use Rattle.std.specs.Prelude.{◌≡◌, ℕ, List, Bool, true, false, [], ◌�
 use Rattle.fzn_lexer.specs.Spots.{Spot, IsWhole}
 use Rattle.fzn_lexer.specs.Passes.{spots_of}
 use Rattle.fzn_lexer.specs.declared.seen.Seen.TheVariants.{End}
-use Rattle.fzn_parser.specs.declared.code.Code.{Code}
-use Rattle.fzn_parser.specs.declared.code.Code.TheVariants as code
-use Rattle.fzn_parser.specs.declared.refused.Refused.{Refused}
-use Rattle.fzn_parser.specs.declared.parse_fault.ParseFault.{ParseFault}
-use Rattle.fzn_parser.specs.declared.parse_fault.ParseFault.TheVariants as fault
-use Rattle.fzn_parser.specs.Reading.{too_long}
+use Rattle.fzn_reader.specs.declared.code.Code.{Code}
+use Rattle.fzn_reader.specs.declared.code.Code.TheVariants as code
+use Rattle.fzn_reader.specs.declared.refused.Refused.{Refused}
+use Rattle.fzn_reader.specs.declared.parse_fault.ParseFault.{ParseFault}
+use Rattle.fzn_reader.specs.declared.parse_fault.ParseFault.TheVariants as fault
+use Rattle.fzn_reader.specs.Reading.{too_long}
 use Rattle.fzn_parser.specs.Grammar.{File}
 
 -- a refusal has the line and the span of what stands there

@@ -1,61 +1,40 @@
-//! The model that a FlatZinc file states, or the first token that refuses it.
+//! The model that a FlatZinc file states, and what can be said of reading without its definition.
 //!
 //! What it is for: the layers above see a model of `fzn_model` and no text.
 //!
-//! What contracts see: bytes as the list of them; a [`Reader`](crate::reader) as the tokens that are left, of the one
-//! list that `fzn_lexer` admits for the bytes; a draft of the model as what the items so far have stated
-//! (`specs/Drafts.antt`).
+//! What contracts see: bytes as the list of them; tokens as the one list that `fzn_lexer` admits for the bytes.
 //!
-//! What it promises: [`parse`] gives exactly what `reads` (`specs/Reading.antt`) gives for the bytes: `Ok` with the model
-//! exactly where that is a model, `Refused` exactly with its code, line and span; memory may run out instead. `reads` is
-//! one function for each rule of the grammar, with the rule as its comment: items in `specs/Items.antt`,
-//! `specs/Constraints.antt` and `specs/Solving.antt`, types and sets in `specs/Types.antt` and `specs/Sets.antt`,
-//! expressions in `specs/Exprs.antt`, `specs/Scalars.antt` and `specs/Lists.antt`, annotations in
-//! `specs/Annotations.antt`, `specs/Outputs.antt` and `specs/Search.antt`; how rules are joined, and refusals, in
-//! `specs/Refusals.antt`. The type of the model keeps `IsModel` of `fzn_model`. Not proved: that the time is linear; a
-//! token is read once, and once more for each level of `output_array` and of search annotations that it stands in.
+//! What it promises: [`parse`] gives exactly what `reads` of `fzn_reader` gives for the bytes. What is accepted is spelled
+//! by the grammar (`specs/Grammar.antt`), what the grammar spells is not refused for its form, and each refusal has the
+//! line and the span of a token of the file, of its end, or of the byte that begins no token (`specs/Laws.antt`).
 //!
-//! What it stands on: `fzn_lexer` for tokens, `fzn_builtin` for constraints by name, `fzn_model`, and a map of names.
+//! What it stands on: `fzn_reader` for reading, `fzn_lexer` for tokens, `fzn_model`.
 #![tactic(auto)]
 
-// Refusals.
-mod code;
-mod parse_fault;
-mod refused;
+ghost use Rattle.std.specs.Prelude.{IfOk, IfErr};
+ghost use Rattle.fzn_reader.specs.Reading.{reads};
+ghost use Rattle.fzn_reader.specs.Answers.{Gives};
+ghost use Rattle.fzn_parser.specs.Laws.{IsSpelled, IsFairFault, IsBeyondForm};
 
-// The token in hand, and what it is.
-mod ann_begin;
-mod begin;
-mod numbers;
-mod reader;
+use fzn_model::Model;
+use fzn_reader::read_model;
+pub use fzn_reader::{Code, ParseFault, Refused};
+use std::alloc::Global;
 
-// What has been stated so far.
-mod decl;
-mod draft;
-mod names;
-mod par_type;
-mod var_type;
-
-// Sets, expressions, types and annotations.
-mod annotations;
-mod elements;
-mod outputs;
-mod scalar;
-mod sets;
-mod types;
-
-// Items, and the file.
-mod array;
-mod constraint;
-mod file;
-mod parameter;
-mod search;
-mod solve;
-#[cfg(test)]
-mod tests;
-mod variable;
-
-pub use code::Code;
-pub use file::parse;
-pub use parse_fault::ParseFault;
-pub use refused::Refused;
+/// The model that the bytes of a FlatZinc file state (MiniZinc Handbook, FlatZinc), within the limits of this project.
+///
+/// `Refused` comes with the first token that shows a fault, and the least code of those that it shows; a file of more
+/// than 67,108,864 bytes is `TooLong` at line 1, before all tokens. `NoMemory` comes where the model has no room.
+///
+/// What is accepted is spelled by the grammar of `specs/Grammar.antt`, and what the grammar spells is not refused as
+/// `Syntax`, `Float` or `SetVar`. A refusal has the line and the span of a token of the file, of its end, or of the byte
+/// that begins no token.
+#[tactic(auto, using(crate::proofs::FileLaws::spelled, crate::proofs::FileLaws::fair, crate::proofs::FormedFile::formed))]
+pub fn parse(alloc: Global, bytes: &[u8]) -> Result<Model, ParseFault>
+    ensures reads { Gives (λ m. m) result (reads bytes.now) }
+    ensures spelled { IfOk result (λ _. IsSpelled bytes.now) }
+    ensures fair { IfErr result (λ e. IsFairFault bytes.now e) }
+    ensures formed { IsSpelled bytes.now → IfErr result (λ e. IsBeyondForm e) }
+{
+    read_model(alloc, bytes)
+}

@@ -6,12 +6,12 @@ use Rattle.fzn_model.specs.Solutions.{Solves, cost}
 use Rattle.incumbent_board.specs.declared.answer.Answer.{Answer}
 use Rattle.incumbent_board.specs.declared.answer.Answer.TheVariants as answer
 use Rattle.incumbent_board.specs.Right.{Right, IsDecided}
-use Rattle.incumbent_board.specs.Verdict.{Verdict, unsatisfiable, satisfiable, least, IsReached, IsVerdict, verdict_of}
+use Rattle.incumbent_board.specs.Verdict.{Verdict, unsatisfiable, satisfiable, least, IsReached, IsVerdict, SaysVerdict}
 
-pub has_verdict : (m : Parts) (a : Answer) → Right m a → IsDecided a → IsVerdict m (verdict_of m a)
-has_verdict m answer.Unsat r d = r
-has_verdict m (answer.Sat θ) r d = (r.0, (θ, r.1))
-has_verdict m (answer.Best θ) r d = (r.0, record { values = θ; solves = r.1.solves; cost_is = refl }, r.1.least)
+pub has_verdict : (m : Parts) (a : Answer) → Right m a → IsDecided a → SaysVerdict m a
+has_verdict m answer.Unsat r d = (unsatisfiable, refl, r)
+has_verdict m (answer.Sat θ) r d = (satisfiable, refl, (r.0, (θ, r.1)))
+has_verdict m (answer.Best θ) r d = (least (cost m θ), refl, (r.0, record { values = θ; solves = r.1.solves; cost_is = refl }, r.1.least))
 has_verdict m (answer.Undecided θ why) r d = absurd d
 
 least_same : (m : Parts) (v w : ℤ) → IsReached m v → ((φ : List ℤ) → Solves m φ → v ≤ℤ cost m φ) → IsReached m w → ((φ : List ℤ) → Solves m φ → w ≤ℤ cost m φ) → v ≡ w

@@ -20,7 +20,7 @@ Right m (answer.Best θ) = (m.goal ≡ goal.Satisfy → ⊥) × IsBest m θ
 Right m (answer.Undecided None why) = ⊤
 Right m (answer.Undecided (Some θ) why) = (m.goal ≡ goal.Satisfy → ⊥) × Solves m θ
 
--- The answer says what listing all assignments would say.
+-- The answer is of a kind that says what listing all assignments would say, where it is right.
 abbrev pub IsDecided : Answer → Type 0
 IsDecided answer.Unsat = ⊤
 IsDecided (answer.Sat θ) = ⊤

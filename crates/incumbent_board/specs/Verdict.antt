@@ -1,5 +1,6 @@
 -- What listing all assignments would say of a model.
-use Rattle.std.specs.Prelude.{◌≡◌, List, ℤ, ◌≤ℤ◌}
+use Rattle.std.specs.Prelude.{◌≡◌, List, Some, None, ℤ, ◌≤ℤ◌}
+use Rattle.std.specs.declared.option.Option.{Option}
 use Rattle.fzn_model.specs.Parts.{Parts}
 use Rattle.fzn_model.specs.Solutions.{Solves, cost}
 use Rattle.fzn_model.specs.declared.goal.Goal.TheVariants as goal
@@ -24,9 +25,13 @@ IsVerdict m unsatisfiable = (θ : List ℤ) → Solves m θ → ⊥
 IsVerdict m satisfiable = (m.goal ≡ goal.Satisfy) × ((θ : List ℤ) × Solves m θ)
 IsVerdict m (least v) = (m.goal ≡ goal.Satisfy → ⊥) × IsReached m v × ((φ : List ℤ) → Solves m φ → v ≤ℤ cost m φ)
 
--- what an answer says; one that isn't decided says nothing that is read here
-abbrev pub verdict_of : Parts → Answer → Verdict
-verdict_of m answer.Unsat = unsatisfiable
-verdict_of m (answer.Sat θ) = satisfiable
-verdict_of m (answer.Best θ) = least (cost m θ)
-verdict_of m (answer.Undecided θ why) = unsatisfiable
+-- what an answer says; one that isn't decided says nothing
+abbrev pub verdict_of : Parts → Answer → Option Verdict
+verdict_of m answer.Unsat = Some unsatisfiable
+verdict_of m (answer.Sat θ) = Some satisfiable
+verdict_of m (answer.Best θ) = Some (least (cost m θ))
+verdict_of m (answer.Undecided θ why) = None
+
+-- the answer says the verdict of the model
+abbrev pub SaysVerdict : Parts → Answer → Type 0
+SaysVerdict m a = (v : Verdict) × (verdict_of m a ≡ Some v) × IsVerdict m v

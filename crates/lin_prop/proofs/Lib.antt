@@ -1,11 +1,8 @@
-pub mod Products
 pub mod Bounded
-pub mod Places
 pub mod Quotients
-pub mod Steps
-pub mod Bounding
+pub mod Scaling
 pub mod Capping
-pub mod Turning
+pub mod Negating
 pub mod Opening
 pub mod Differing
 pub mod Relating

@@ -6,31 +6,31 @@ use Rattle.fzn_model.specs.declared.term.Term.{Term}
 use Rattle.fzn_model.specs.Bounds.{IsFixed}
 use Rattle.dom_store.specs.Strength.{SumIsFixed, OthersFixed}
 use Rattle.lin_prop.specs.declared.open_terms.OpenTerms.TheVariants as terms
-use Rattle.lin_prop.specs.Different.{IsOpenAt, OpenSays, FixedBetween}
+use Rattle.lin_prop.specs.Different.{IsOpenAt, OpenMeans, FixedBetween}
 
-pub between_none : (box : List (List ℤ)) (ps : List (ℤ × Term)) (from : ℕ) → FixedBetween box ps from from
+pub between_none : (box : List (List ℤ)) (ts : List (ℤ × Term)) (from : ℕ) → FixedBetween box ts from from
 unfolding FixedBetween
-between_none box ps from j d h k = absurd (omega arith)
+between_none box ts from j d h k = absurd (omega arith)
 
-pub between_more : (box : List (List ℤ)) (ps : List (ℤ × Term)) (from i : ℕ) (e : ℤ × Term) → i < length ps → FixedBetween box ps from i → IsFixed box (get_or ps i e).1 → FixedBetween box ps from (i + 1)
+pub between_more : (box : List (List ℤ)) (ts : List (ℤ × Term)) (from i : ℕ) (e : ℤ × Term) → i < length ts → FixedBetween box ts from i → IsFixed box (get_or ts i e).1 → FixedBetween box ts from (i + 1)
 unfolding FixedBetween
-between_more box ps from i e inside before here j d h k =
+between_more box ts from i e inside before here j d h k =
     elim (cases_lt j i) [
       | inl less ↦ before j d h less
-      | inr most ↦ let same : i ≡ j = omega arith in subst (λ n. IsFixed box (get_or ps n d).1) same (subst (λ (p : ℤ × Term). IsFixed box p.1) (get_or_default ps i e d inside) here)
+      | inr most ↦ let same : i ≡ j = omega arith in subst (λ n. IsFixed box (get_or ts n d).1) same (subst (λ (p : ℤ × Term). IsFixed box p.1) (get_or_default ts i e d inside) here)
     ]
 
-pub open_here : (box : List (List ℤ)) (ps : List (ℤ × Term)) (i : ℕ) (e : ℤ × Term) → (IsFixed box (get_or ps i e).1 → ⊥) → IsOpenAt box ps i
+pub open_here : (box : List (List ℤ)) (ts : List (ℤ × Term)) (i : ℕ) (e : ℤ × Term) → (IsFixed box (get_or ts i e).1 → ⊥) → IsOpenAt box ts i
 unfolding IsOpenAt
-open_here box ps i e open_ d h fixed = open_ (subst (λ (p : ℤ × Term). IsFixed box p.1) (get_or_default ps i d e h) fixed)
+open_here box ts i e open_ d h fixed = open_ (subst (λ (p : ℤ × Term). IsFixed box p.1) (get_or_default ts i d e h) fixed)
 
-pub none_open : (box : List (List ℤ)) (ps : List (ℤ × Term)) (to : ℕ) → length ps ≤ to → FixedBetween box ps 0 to → OpenSays box ps terms.None
+pub none_open : (box : List (List ℤ)) (ts : List (ℤ × Term)) (to : ℕ) → length ts ≤ to → FixedBetween box ts 0 to → OpenMeans box ts terms.None
 unfolding FixedBetween SumIsFixed
-none_open box ps to h fixed k d i = fixed k d (omega arith) (omega (arith, h, i))
+none_open box ts to h fixed k d i = fixed k d (omega arith) (omega (arith, h, i))
 
-pub one_open : (box : List (List ℤ)) (ps : List (ℤ × Term)) (i to : ℕ) → i < length ps → length ps ≤ to → IsOpenAt box ps i → FixedBetween box ps 0 i → FixedBetween box ps (i + 1) to → OpenSays box ps (terms.One i)
+pub one_open : (box : List (List ℤ)) (ts : List (ℤ × Term)) (i to : ℕ) → i < length ts → length ts ≤ to → IsOpenAt box ts i → FixedBetween box ts 0 i → FixedBetween box ts (i + 1) to → OpenMeans box ts (terms.One i)
 unfolding FixedBetween OthersFixed
-one_open box ps i to inside far open_ before after = (
+one_open box ts i to inside far open_ before after = (
   inside,
   open_,
   λ j d h apart. elim (cases_lt j i) [
@@ -42,5 +42,5 @@ one_open box ps i to inside far open_ before after = (
   ],
 )
 
-pub two_open : (box : List (List ℤ)) (ps : List (ℤ × Term)) (i j : ℕ) → i < j → j < length ps → IsOpenAt box ps i → IsOpenAt box ps j → OpenSays box ps terms.More
-two_open box ps i j less inside first second = (i, j, less, inside, first, second)
+pub two_open : (box : List (List ℤ)) (ts : List (ℤ × Term)) (i j : ℕ) → i < j → j < length ts → IsOpenAt box ts i → IsOpenAt box ts j → OpenMeans box ts terms.More
+two_open box ts i j less inside first second = (i, j, less, inside, first, second)

@@ -4,9 +4,9 @@ use Rattle.std.specs.Prelude.{int_div, int_rem, unsigned_abs}
 use Rattle.std.proofs.lemmas.Int.{ints, quot-rem, rem_below, unsigned_abs-mul}
 use Rattle.std.proofs.Math.Nat.{div-add-mod', mod-lt, mul_comm}
 use Rattle.std.proofs.Math.IntN.{*ℤ_comm}
-use Rattle.fzn_model.specs.Kept.{IsValue}
+use Rattle.fzn_model.specs.Limits.{IsValue}
 use Rattle.lin_prop.specs.Different.{Excludes}
-use Rattle.lin_prop.proofs.Products.{up_mono, dist_minus}
+use Rattle.fzn_model.proofs.Products.{up_mono, dist_minus}
 
 pub quotient : (n d : ℤ) → pos 0 ≤ℤ n → pos 0 <ℤ d → (pos 0 ≤ℤ int_div n d) × ((d *ℤ int_div n d) ≤ℤ n) × (n <ℤ (d *ℤ (int_div n d +ℤ pos 1)))
 quotient (pos n) (pos d) h k =

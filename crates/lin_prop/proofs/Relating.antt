@@ -1,129 +1,115 @@
 -- From sums to linear constraints.
-use Rattle.std.proofs.Common.{◌≡◌, zero, suc, List, [], ◌∷◌, length, map, ℤ, neg_ℤ, ◌*ℤ◌, ◌≤ℤ◌, refl, sym, ap, ◌∙◌, arith, subst}
+use Rattle.std.proofs.Common.{◌≡◌, List, length, map, ℤ, neg_ℤ, ◌≤ℤ◌, sym, ◌∙◌, arith, subst}
 use Rattle.std.specs.Prelude.{All, true, false}
-use Rattle.std.specs.Int.{int_min, int_max}
-use Rattle.std.proofs.lemmas.Int.{ints, clamps}
+use Rattle.std.proofs.lemmas.Int.{ints}
 use Rattle.std.proofs.lemmas.List.{length-map, get_or-map}
 use Rattle.fzn_model.specs.declared.term.Term.{Term}
 use Rattle.fzn_model.specs.declared.lin.Rel.TheVariants.{Le, Eq, Ne}
-use Rattle.fzn_model.specs.Meaning.{lin_sum}
-use Rattle.fzn_model.specs.Kept.{SumKept}
+use Rattle.fzn_model.specs.Meaning.{lin_sum, Holds}
+use Rattle.fzn_model.specs.Limits.{SumInLimits}
 use Rattle.fzn_model.specs.Boxes.{IsBox, InBox}
+use Rattle.fzn_model.specs.Bounds.{IsFixed, sum_low}
+use Rattle.fzn_model.proofs.LinearBounds.{sum_fixed, bounds_fixed}
 use Rattle.dom_store.specs.Stores.{Stored}
-use Rattle.fzn_model.specs.Bounds.{IsFixed, part_low, part_high, sum_low, sum_high}
-use Rattle.dom_store.specs.Strength.{SumIsFixed, IsChecked}
-use Rattle.dom_store.specs.Laws.{loses_more, runs_trans, none_before, still}
+use Rattle.dom_store.specs.Steps.{Step}
+use Rattle.dom_store.specs.Strength.{SumIsFixed, IsChecked, IsOwed}
 use Rattle.dom_store.specs.declared.pass.Passed.{Passed}
 use Rattle.dom_store.specs.declared.pass.Passed.TheVariants as passed
+use Rattle.dom_store.proofs.Stepping.{step_for, step_as, step_both, step_end}
 use Rattle.lin_prop.specs.Signed.{signed_all}
-use Rattle.lin_prop.specs.Capped.{IsAtMost, Lowers, IsLow, CapSays}
-use Rattle.lin_prop.specs.Different.{Differs, Separates, SeparateSays}
-use Rattle.lin_prop.specs.Kinds.{relation, Relates, Concluded}
-use Rattle.lin_prop.proofs.Bounding.{sum_fixed}
-use Rattle.lin_prop.proofs.Turning.{same_all, sum_turned, sum_low_turned, raised_of}
+use Rattle.lin_prop.specs.Capped.{SumIsAtMost, IsLow}
+use Rattle.lin_prop.specs.Different.{Differs, IsApart}
+use Rattle.lin_prop.specs.Kinds.{relation, ConIsOwed}
+use Rattle.lin_prop.proofs.Negating.{same_all, sum_negated, low_negated, raised_of}
 
-same_max : (x y : ℤ) → y ≡ x → int_max x y ≡ int_min x y
-same_max x y e = omega (arith, ints, clamps, e)
+at_most : (ts : List (ℤ × Term)) (r : ℤ) (θ : List ℤ) → lin_sum ts θ ≤ℤ r → SumIsAtMost (signed_all false ts) r θ
+unfolding SumIsAtMost
+at_most ts r θ h = subst (λ qs. lin_sum qs θ ≤ℤ r) (sym (same_all ts)) h
 
-part_same : (box : List (List ℤ)) (p : ℤ × Term) → IsFixed box p.1 → part_high box p ≡ part_low box p
-part_same box p e = same_max _ _ (ap (λ x. p.0 *ℤ x) (sym e))
+negative_at_most : (ts : List (ℤ × Term)) (r s : ℤ) (θ : List ℤ) → s ≡ neg_ℤ r → r ≤ℤ lin_sum ts θ → SumIsAtMost (signed_all true ts) s θ
+unfolding SumIsAtMost
+negative_at_most ts r s θ e h = let t = sum_negated ts θ in omega (arith, ints, t, e, h)
 
-at_most_false : (ps : List (ℤ × Term)) (r : ℤ) (θ : List ℤ) → lin_sum ps θ ≤ℤ r → IsAtMost (signed_all false ps) r θ
-unfolding IsAtMost
-at_most_false ps r θ h = subst (λ qs. lin_sum qs θ ≤ℤ r) (sym (same_all ps)) h
-
-at_most_true : (ps : List (ℤ × Term)) (r s : ℤ) (θ : List ℤ) → s ≡ neg_ℤ r → r ≤ℤ lin_sum ps θ → IsAtMost (signed_all true ps) s θ
-unfolding IsAtMost
-at_most_true ps r s θ e h = let t = sum_turned ps θ in omega (arith, ints, t, e, h)
-
-fixed_parts : (box : List (List ℤ)) (ps : List (ℤ × Term)) → All (IsFixed box) (map (λ (p : ℤ × Term). p.1) ps) → SumIsFixed box ps
+fixed_sum : (box : List (List ℤ)) (ts : List (ℤ × Term)) → All (IsFixed box) (map (λ (t : ℤ × Term). t.1) ts) → SumIsFixed box ts
 unfolding SumIsFixed
-fixed_parts box ps all k d h = subst (IsFixed box) (get_or-map (λ (p : ℤ × Term). p.1) ps k d d.1 h) (all k d.1 (omega (arith, h, length-map ps (λ (p : ℤ × Term). p.1))))
+fixed_sum box ts all k d h = subst (IsFixed box) (get_or-map (λ (t : ℤ × Term). t.1) ts k d d.1 h) (all k d.1 (omega (arith, h, length-map ts (λ (t : ℤ × Term). t.1))))
 
-sum_is : (box : List (List ℤ)) (ps : List (ℤ × Term)) (θ : List ℤ) → IsBox box → SumKept (length box) ps → All (IsFixed box) (map (λ (p : ℤ × Term). p.1) ps) → InBox box θ → lin_sum ps θ ≡ sum_low box ps
+sum_is : (box : List (List ℤ)) (ts : List (ℤ × Term)) (θ : List ℤ) → IsBox box → SumInLimits (length box) ts → All (IsFixed box) (map (λ (t : ℤ × Term). t.1) ts) → InBox box θ → lin_sum ts θ ≡ sum_low box ts
 unfolding SumIsFixed
-sum_is box ps θ sound kept all lies = sum_fixed box ps θ sound kept.terms lies (fixed_parts box ps all)
+sum_is box ts θ well_formed limits all lies = sum_fixed box ts θ well_formed limits.terms lies (fixed_sum box ts all)
 
--- with fixed terms the greatest of a sum is its least
-high_is : (box : List (List ℤ)) (ps : List (ℤ × Term)) → SumIsFixed box ps → sum_high box ps ≡ sum_low box ps
-unfolding SumIsFixed
-high_is box [] fixed = refl
-high_is box (p ∷ ps) fixed =
-    let here : IsFixed box p.1 = fixed zero p (omega arith) in
-    let one = part_same box p here in
-    let rest = high_is box ps (λ k d h. fixed (suc k) d (omega (arith, h))) in
-    omega (arith, ints, one, rest)
+-- ---- at most
+low_at : (box : List (List ℤ)) (ts : List (ℤ × Term)) (r : ℤ) → IsLow (signed_all false ts) r box → IsLow ts r box
+low_at box ts r low = subst (λ qs. IsLow qs r box) (same_all ts) low
 
-pub at_most_relates : (ps : List (ℤ × Term)) (r : ℤ) (old new : Stored) → Lowers (signed_all false ps) r old new → Relates Le ps r old new
-unfolding Relates
-at_most_relates ps r old new lowers = record { loses = loses_more _ _ old.box new.box lowers.loses (at_most_false ps r); saved = lowers.saved; changes = lowers.changes }
+at_most_owed : (box : List (List ℤ)) (ts : List (ℤ × Term)) (r : ℤ) → IsBox box → SumInLimits (length box) ts → IsLow ts r box → IsOwed box (relation Le ts r)
+unfolding IsChecked
+at_most_owed box ts r well_formed limits low = record {
+  kind = low.capped;
+  checked = λ all θ lies.
+      let sum = sum_is box ts θ well_formed limits all lies in
+      omega (arith, ints, sum, low.sum);
+}
 
-low_at : (box : List (List ℤ)) (ps : List (ℤ × Term)) (r : ℤ) → IsLow box (signed_all false ps) r → IsLow box ps r
-low_at box ps r low = subst (λ qs. IsLow box qs r) (same_all ps) low
+pub at_most_step : (ts : List (ℤ × Term)) (r : ℤ) (old new : Stored) (result : Passed) → SumInLimits (length old.box) ts → Step (IsLow (signed_all false ts) r) (SumIsAtMost (signed_all false ts) r) old new result → Step (ConIsOwed (relation Le ts r)) (Holds (relation Le ts r)) old new result
+at_most_step ts r old new result limits step =
+    step_for (IsLow (signed_all false ts) r) (ConIsOwed (relation Le ts r)) (SumIsAtMost (signed_all false ts) r) (Holds (relation Le ts r)) old new result
+    (λ same low. at_most_owed new.box ts r step.well_formed (subst (λ b. SumInLimits (length b) ts) (sym same) limits) (low_at new.box ts r low))
+    (λ θ lies h. at_most ts r θ h)
+    step
 
-pub at_most_concludes : (ps : List (ℤ × Term)) (r : ℤ) (old new : List (List ℤ)) (answer : Passed) → IsBox old → SumKept (length old) ps → CapSays (signed_all false ps) r old new answer → Concluded Le ps r old new answer
-unfolding Concluded CapSays IsChecked
-at_most_concludes ps r old new passed.Done sound kept says = λ e.
-    let low = low_at new ps r (says e) in
-    record {
-      kind = low.capped;
-      checked = λ all θ lies.
-          let sum = sum_is new ps θ (subst IsBox (sym e) sound) (subst (λ b. SumKept (length b) ps) (sym e) kept) all lies in
-          omega (arith, ints, sum, low.sum);
-    }
-at_most_concludes ps r old new passed.Empty sound kept says = λ θ lies h. says θ lies (at_most_false ps r θ h)
+-- ---- equal to
+equal_owed : (box : List (List ℤ)) (ts : List (ℤ × Term)) (r : ℤ) → IsBox box → SumInLimits (length box) ts → IsLow ts r box → IsLow (signed_all true ts) (neg_ℤ r) box → IsOwed box (relation Eq ts r)
+unfolding IsChecked SumIsFixed
+equal_owed box ts r well_formed limits up down = record {
+  kind = (up.capped, raised_of box ts r down.capped);
+  checked = λ all θ lies.
+      let sum = sum_is box ts θ well_formed limits all lies in
+      let negative = low_negated box ts in
+      let most = bounds_fixed box ts (fixed_sum box ts all) in
+      omega (arith, ints, sum, up.sum, down.sum, negative, most);
+}
 
-equal_up : (ps : List (ℤ × Term)) (r : ℤ) (θ : List ℤ) → lin_sum ps θ ≡ r → IsAtMost (signed_all false ps) r θ
-equal_up ps r θ e = at_most_false ps r θ (omega (arith, ints, e))
+equal_first : (ts : List (ℤ × Term)) (r : ℤ) (old new : Stored) (result : Passed) → Step (IsLow (signed_all false ts) r) (SumIsAtMost (signed_all false ts) r) old new result → Step (IsLow ts r) (Holds (relation Eq ts r)) old new result
+equal_first ts r old new result step =
+    step_for (IsLow (signed_all false ts) r) (IsLow ts r) (SumIsAtMost (signed_all false ts) r) (Holds (relation Eq ts r)) old new result
+    (λ same low. low_at new.box ts r low)
+    (λ θ lies e. at_most ts r θ (omega (arith, ints, e)))
+    step
 
-equal_down : (ps : List (ℤ × Term)) (r s : ℤ) (θ : List ℤ) → s ≡ neg_ℤ r → lin_sum ps θ ≡ r → IsAtMost (signed_all true ps) s θ
-equal_down ps r s θ t e = at_most_true ps r s θ t (omega (arith, ints, e))
+equal_second : (ts : List (ℤ × Term)) (r s : ℤ) (old new : Stored) (result : Passed) → s ≡ neg_ℤ r → Step (IsLow (signed_all true ts) s) (SumIsAtMost (signed_all true ts) s) old new result → Step (IsLow (signed_all true ts) (neg_ℤ r)) (Holds (relation Eq ts r)) old new result
+equal_second ts r s old new result is step =
+    step_for (IsLow (signed_all true ts) s) (IsLow (signed_all true ts) (neg_ℤ r)) (SumIsAtMost (signed_all true ts) s) (Holds (relation Eq ts r)) old new result
+    (λ same low. subst (λ z. IsLow (signed_all true ts) z new.box) is low)
+    (λ θ lies e. negative_at_most ts r s θ is (omega (arith, ints, e)))
+    step
 
-pub equal_relates : (ps : List (ℤ × Term)) (r : ℤ) (old new : Stored) → Lowers (signed_all false ps) r old new → Relates Eq ps r old new
-unfolding Relates
-equal_relates ps r old new lowers = record { loses = loses_more _ _ old.box new.box lowers.loses (equal_up ps r); saved = lowers.saved; changes = lowers.changes }
+pub equal_none : (ts : List (ℤ × Term)) (r : ℤ) (old new : Stored) → Step (IsLow (signed_all false ts) r) (SumIsAtMost (signed_all false ts) r) old new passed.Empty → Step (ConIsOwed (relation Eq ts r)) (Holds (relation Eq ts r)) old new passed.Empty
+equal_none ts r old new step = step_end (IsLow ts r) (ConIsOwed (relation Eq ts r)) (Holds (relation Eq ts r)) old new (equal_first ts r old new passed.Empty step)
 
-pub equal_relates_more : (ps : List (ℤ × Term)) (r s : ℤ) (old mid new : Stored) → s ≡ neg_ℤ r → Lowers (signed_all false ps) r old mid → Lowers (signed_all true ps) s mid new → Relates Eq ps r old new
-unfolding Relates
-equal_relates_more ps r s old mid new t first second =
-    runs_trans (relation Eq ps r) old mid new (record { loses = loses_more _ _ old.box mid.box first.loses (equal_up ps r); saved = first.saved; changes = first.changes })
-    (record { loses = loses_more _ _ mid.box new.box second.loses (λ θ e. equal_down ps r s θ t e); saved = second.saved; changes = second.changes })
+pub equal_step : (ts : List (ℤ × Term)) (r s : ℤ) (old mid new : Stored) (result : Passed) → s ≡ neg_ℤ r → SumInLimits (length old.box) ts → Step (IsLow (signed_all false ts) r) (SumIsAtMost (signed_all false ts) r) old mid passed.Done → Step (IsLow (signed_all true ts) s) (SumIsAtMost (signed_all true ts) s) mid new result → Step (ConIsOwed (relation Eq ts r)) (Holds (relation Eq ts r)) old new result
+equal_step ts r s old mid new result is limits first second =
+    let up = equal_first ts r old mid passed.Done first in
+    let down = equal_second ts r s mid new result is second in
+    let both = step_both (IsLow ts r) (IsLow (signed_all true ts) (neg_ℤ r)) (Holds (relation Eq ts r)) old mid new result up down in
+    step_as (λ box. IsLow ts r box × IsLow (signed_all true ts) (neg_ℤ r) box) (ConIsOwed (relation Eq ts r)) (Holds (relation Eq ts r)) old new result
+    (λ same low. equal_owed new.box ts r second.well_formed (subst (λ b. SumInLimits (length b) ts) (sym same) limits) low.0 low.1)
+    both
 
-pub equal_none : (ps : List (ℤ × Term)) (r : ℤ) (old new : List (List ℤ)) → CapSays (signed_all false ps) r old new passed.Empty → Concluded Eq ps r old new passed.Empty
-unfolding Concluded CapSays
-equal_none ps r old new says = λ θ lies h. says θ lies (equal_up ps r θ h)
+-- ---- different from
+different_owed : (box : List (List ℤ)) (ts : List (ℤ × Term)) (r : ℤ) → IsBox box → SumInLimits (length box) ts → IsApart ts r box → IsOwed box (relation Ne ts r)
+unfolding IsChecked
+different_owed box ts r well_formed limits apart = record {
+  kind = apart.avoided;
+  checked = λ all θ lies same.
+      let sum = sum_is box ts θ well_formed limits all lies in
+      apart.fixed (fixed_sum box ts all) (sym sum ∙ same);
+}
 
-pub equal_concludes : (ps : List (ℤ × Term)) (r s : ℤ) (old mid new : Stored) (answer : Passed) → s ≡ neg_ℤ r → IsBox old.box → SumKept (length old.box) ps → Lowers (signed_all false ps) r old mid → Lowers (signed_all true ps) s mid new → CapSays (signed_all false ps) r old.box mid.box passed.Done → CapSays (signed_all true ps) s mid.box new.box answer → Concluded Eq ps r old.box new.box answer
-unfolding Concluded CapSays IsChecked
-equal_concludes ps r s old mid new passed.Done t sound kept first second low high = λ e.
-    let same : mid.box ≡ old.box = still _ _ old.box mid.box new.box first.loses second.loses e in
-    let again : new.box ≡ mid.box = e ∙ sym same in
-    let up : IsLow new.box ps r = subst (λ b. IsLow b ps r) (sym again) (low_at mid.box ps r (low same)) in
-    let down : IsLow new.box (signed_all true ps) (neg_ℤ r) = subst (λ z. IsLow new.box (signed_all true ps) z) t (high again) in
-    record {
-      kind = (up.capped, raised_of new.box ps r down.capped);
-      checked = λ all θ lies.
-          let is = subst IsBox (sym e) sound in
-          let within = subst (λ b. SumKept (length b) ps) (sym e) kept in
-          let sum = sum_is new.box ps θ is within all lies in
-          let turned_low = sum_low_turned new.box ps in
-          let most = high_is new.box ps (fixed_parts new.box ps all) in
-          omega (arith, ints, sum, up.sum, down.sum, turned_low, most);
-    }
-equal_concludes ps r s old mid new passed.Empty t sound kept first second low high = λ θ lies h. none_before (λ φ. lin_sum ps φ ≡ r) old.box mid.box (loses_more _ _ old.box mid.box first.loses (equal_up ps r)) (λ φ lie e. high φ lie (equal_down ps r s φ t e)) θ lies h
-
-pub different_relates : (ps : List (ℤ × Term)) (r : ℤ) (old new : Stored) → Separates ps r old new → Relates Ne ps r old new
-unfolding Relates Differs
-different_relates ps r old new parts = record { loses = parts.loses; saved = parts.saved; changes = parts.changes }
-
-pub different_concludes : (ps : List (ℤ × Term)) (r : ℤ) (old new : List (List ℤ)) (answer : Passed) → IsBox old → SumKept (length old) ps → SeparateSays ps r old new answer → Concluded Ne ps r old new answer
-unfolding Concluded SeparateSays Differs IsChecked
-different_concludes ps r old new passed.Done sound kept says = λ e.
-    let apart = says e in
-    record {
-      kind = apart.avoided;
-      checked = λ all θ lies same.
-          let sum = sum_is new ps θ (subst IsBox (sym e) sound) (subst (λ b. SumKept (length b) ps) (sym e) kept) all lies in
-          apart.fixed (fixed_parts new ps all) (sym sum ∙ same);
-    }
-different_concludes ps r old new passed.Empty sound kept says = says
+pub different_step : (ts : List (ℤ × Term)) (r : ℤ) (old new : Stored) (result : Passed) → SumInLimits (length old.box) ts → Step (IsApart ts r) (Differs ts r) old new result → Step (ConIsOwed (relation Ne ts r)) (Holds (relation Ne ts r)) old new result
+unfolding Differs
+different_step ts r old new result limits step =
+    step_for (IsApart ts r) (ConIsOwed (relation Ne ts r)) (Differs ts r) (Holds (relation Ne ts r)) old new result
+    (λ same apart. different_owed new.box ts r step.well_formed (subst (λ b. SumInLimits (length b) ts) (sym same) limits) apart)
+    (λ θ lies h. h)
+    step

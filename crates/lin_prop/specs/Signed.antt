@@ -2,11 +2,11 @@
 use Rattle.std.specs.Prelude.{List, map, Bool, true, false, ℤ, neg_ℤ}
 use Rattle.fzn_model.specs.declared.term.Term.{Term}
 
--- a coefficient with its term, or with the sign turned
+-- a coefficient with its term, or negated
 abbrev pub signed : Bool → ℤ × Term → ℤ × Term
 signed false p = p
 signed true p = (neg_ℤ p.0, p.1)
 
--- all parts of a sum, or of its negative
+-- all terms of a sum, or of its negative
 unfoldable pub signed_all : Bool → List (ℤ × Term) → List (ℤ × Term)
-signed_all turned ps = map (signed turned) ps
+signed_all on ts = map (signed on) ts

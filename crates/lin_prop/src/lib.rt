@@ -20,7 +20,7 @@
 mod capped;
 mod different;
 mod open_terms;
-mod parts;
+mod scaled;
 mod sums;
 
 // The propagator.

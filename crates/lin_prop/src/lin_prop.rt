@@ -2,14 +2,14 @@ ghost use Rattle.std.specs.Prelude.{◌≡◌, IfOk, length, unsigned_abs, neg_�
 ghost use Rattle.fzn_model.specs.declared.con.Con.TheVariants as con;
 ghost use Rattle.fzn_model.specs.declared.base.Base.TheVariants as base;
 ghost use Rattle.fzn_model.specs.declared.lin.Rel.TheVariants.{Le, Eq, Ne};
-ghost use Rattle.fzn_model.specs.Kept.{SumKept};
-ghost use Rattle.fzn_model.specs.Booleans.{Suits};
-ghost use Rattle.dom_store.specs.Propagation.{Runs};
-ghost use Rattle.dom_store.specs.Passes.{Concludes};
-ghost use Rattle.lin_prop.specs.Kinds.{IsLinear, Relates, Concluded};
+ghost use Rattle.fzn_model.specs.Limits.{SumInLimits};
+ghost use Rattle.fzn_model.specs.Booleans.{FitsBox};
+ghost use Rattle.dom_store.specs.Steps.{Step};
+ghost use Rattle.lin_prop.specs.Kinds.{IsLinear, ConIsOwed, relation};
+ghost use Rattle.fzn_model.specs.Meaning.{Holds};
 
 use crate::capped::cap_sum;
-use crate::different::part_sum;
+use crate::different::separate_sum;
 use dom_store::{Pass, Passed, Propagator, Ran, Store, pass_on};
 use fzn_model::{Base, Con, Lin, Rel, Term};
 use std::alloc::{AllocError, Global};
@@ -41,52 +41,45 @@ fn negative(number: &i128) -> i128
 }
 
 /// Narrows for a sum that is at most a number.
-#[tactic(auto, using(crate::proofs::Relating::at_most_relates, crate::proofs::Relating::at_most_concludes))]
-fn pass_at_most(store: &mut Store, parts: &[(i64, Term)], r: &i128) -> Passed
-    requires kept { SumKept (length store.old.box) parts.now }
+fn pass_at_most(store: &mut Store, terms: &[(i64, Term)], r: &i128) -> Passed
+    requires limits { SumInLimits (length store.old.box) terms.now }
     requires number { unsigned_abs r.now ≤ 2 ^ 100 }
-    ensures relates { Relates Le parts.now r.now store.old store.new }
-    ensures says { Concluded Le parts.now r.now store.old.box store.new.box result }
+    ensures { Step (ConIsOwed (relation Le terms.now r.now)) (Holds (relation Le terms.now r.now)) store.old store.new result }
 {
-    cap_sum(store, false, parts, r)
+    cap_sum(store, false, terms, r)
 }
 
 /// Narrows for a sum that is equal to a number: at most it, and its negative at most the number's negative.
-#[tactic(auto, using(crate::proofs::Relating::equal_relates, crate::proofs::Relating::equal_relates_more, crate::proofs::Relating::equal_none, crate::proofs::Relating::equal_concludes))]
-fn pass_equal(store: &mut Store, parts: &[(i64, Term)], r: &i128) -> Passed
-    requires kept { SumKept (length store.old.box) parts.now }
+fn pass_equal(store: &mut Store, terms: &[(i64, Term)], r: &i128) -> Passed
+    requires limits { SumInLimits (length store.old.box) terms.now }
     requires number { unsigned_abs r.now ≤ 2 ^ 100 }
-    ensures relates { Relates Eq parts.now r.now store.old store.new }
-    ensures says { Concluded Eq parts.now r.now store.old.box store.new.box result }
+    ensures { Step (ConIsOwed (relation Eq terms.now r.now)) (Holds (relation Eq terms.now r.now)) store.old store.new result }
 {
-    match cap_sum(store, false, parts, r) {
+    match cap_sum(store, false, terms, r) {
         Passed::Empty => Passed::Empty,
-        Passed::Done => cap_sum(store, true, parts, &negative(r)),
+        Passed::Done => cap_sum(store, true, terms, &negative(r)),
     }
 }
 
 /// Narrows for a sum that differs from a number.
-#[tactic(auto, using(crate::proofs::Relating::different_relates, crate::proofs::Relating::different_concludes))]
-fn pass_different(store: &mut Store, parts: &[(i64, Term)], r: &i128) -> Passed
-    requires kept { SumKept (length store.old.box) parts.now }
+fn pass_different(store: &mut Store, terms: &[(i64, Term)], r: &i128) -> Passed
+    requires limits { SumInLimits (length store.old.box) terms.now }
     requires number { unsigned_abs r.now ≤ 2 ^ 100 }
-    ensures relates { Relates Ne parts.now r.now store.old store.new }
-    ensures says { Concluded Ne parts.now r.now store.old.box store.new.box result }
+    ensures { Step (ConIsOwed (relation Ne terms.now r.now)) (Holds (relation Ne terms.now r.now)) store.old store.new result }
 {
-    part_sum(store, parts, r)
+    separate_sum(store, terms, r)
 }
 
 /// Narrows for a relation.
-fn pass_relation(rel: Rel, store: &mut Store, parts: &[(i64, Term)], r: &i128) -> Passed
-    requires kept { SumKept (length store.old.box) parts.now }
+fn pass_relation(rel: Rel, store: &mut Store, terms: &[(i64, Term)], r: &i128) -> Passed
+    requires limits { SumInLimits (length store.old.box) terms.now }
     requires number { unsigned_abs r.now ≤ 2 ^ 100 }
-    ensures relates { Relates rel parts.now r.now store.old store.new }
-    ensures says { Concluded rel parts.now r.now store.old.box store.new.box result }
+    ensures { Step (ConIsOwed (relation rel terms.now r.now)) (Holds (relation rel terms.now r.now)) store.old store.new result }
 {
     match rel {
-        Rel::Le => pass_at_most(store, parts, r),
-        Rel::Eq => pass_equal(store, parts, r),
-        Rel::Ne => pass_different(store, parts, r),
+        Rel::Le => pass_at_most(store, terms, r),
+        Rel::Eq => pass_equal(store, terms, r),
+        Rel::Ne => pass_different(store, terms, r),
     }
 }
 
@@ -106,11 +99,9 @@ impl LinProp {
 }
 
 /// One pass for a relation.
-#[tactic(auto, unfolding(crate::specs::Kinds::Relates, crate::specs::Kinds::Concluded))]
 fn pass_lin(store: &mut Store, lin: &Lin) -> Passed
-    requires { Suits store.old.box (con.Base (base.Lin lin.now)) }
-    ensures runs { Runs (con.Base (base.Lin lin.now)) store.old store.new }
-    ensures says { Concludes (con.Base (base.Lin lin.now)) store.old.box store.new.box result }
+    requires { FitsBox store.old.box (con.Base (base.Lin lin.now)) }
+    ensures { Step (ConIsOwed (con.Base (base.Lin lin.now))) (Holds (con.Base (base.Lin lin.now))) store.old store.new result }
 {
     pass_relation(lin.rel, store, lin.terms.as_slice(), &lin.r)
 }
@@ -118,6 +109,7 @@ fn pass_lin(store: &mut Store, lin: &Lin) -> Passed
 impl Pass for LinProp {
     ghost subject = { λ c. c };
 
+    #[tactic(auto, using(dom_store::proofs::Stepping::step_concludes))]
     fn pass(&mut self, store: &mut Store) -> Result<Passed, AllocError> {
         Ok(pass_lin(store, &self.lin))
     }

@@ -6,15 +6,15 @@ use Rattle.fzn_model.specs.declared.base.Base.TheVariants as base
 use Rattle.fzn_model.specs.declared.con.Con.{Con}
 use Rattle.fzn_model.specs.declared.con.Con.TheVariants as con
 use Rattle.fzn_model.specs.Parts.{Parts}
-use Rattle.fzn_model.specs.Kept.{BaseKept, ConKept, of_model, IsModel}
+use Rattle.fzn_model.specs.Limits.{BaseInLimits, ConInLimits, of_model, IsModel}
 use Rattle.prop_engine.specs.Plans.{CanTurn, CanHold}
 
-turns : (n : ℕ) (b : Base) → BaseKept of_model n b → CanTurn b
+turns : (n : ℕ) (b : Base) → BaseInLimits of_model n b → CanTurn b
 turns n (base.Lin l) kept = (kept.sum.factors, kept.constant)
 turns n (base.Clause c) kept = tt
 turns n (base.Member m) kept = tt
 
-holds : (n : ℕ) (c : Con) → ConKept of_model n c → CanHold c
+holds : (n : ℕ) (c : Con) → ConInLimits of_model n c → CanHold c
 holds n (con.Base b) kept = tt
 holds n (con.Reif b r f) kept = turns n b kept.0
 holds n (con.Times a b c) kept = tt

@@ -3,3 +3,4 @@ pub mod Sweeping
 pub mod Reifying
 pub mod Rounding
 pub mod Holding
+pub mod Models

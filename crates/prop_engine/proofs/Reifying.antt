@@ -9,27 +9,30 @@ use Rattle.fzn_model.specs.declared.base.Base.TheVariants as base
 use Rattle.fzn_model.specs.declared.con.Con.{Con}
 use Rattle.fzn_model.specs.declared.con.Con.TheVariants as con
 use Rattle.fzn_model.specs.Meaning.{bit, Holds, HoldsBase}
-use Rattle.fzn_model.specs.Opposites.{opposite, opposite_stands, opposite_kept, opposite_small}
-use Rattle.fzn_model.specs.Kept.{TermIn}
+use Rattle.fzn_model.proofs.Opposites.{opposite_stands, opposite_in_limits, opposite_small}
+use Rattle.fzn_model.specs.Opposites.{opposite}
+use Rattle.fzn_model.specs.Limits.{TermIn}
 use Rattle.fzn_model.specs.Boxes.{IsBox, InBox}
 use Rattle.dom_store.specs.declared.propagator.Ran.{Ran}
 use Rattle.dom_store.specs.declared.propagator.Ran.TheVariants as ran
 use Rattle.dom_store.specs.Stores.{Stored}
 use Rattle.fzn_model.specs.Bounds.{IsAt}
 use Rattle.dom_store.specs.Strength.{IsOwed, IsStrong, BaseIsStrong, DeniedIsStrong}
-use Rattle.dom_store.specs.Opposites.{opposite_strong}
-use Rattle.fzn_model.specs.Booleans.{Suits}
-use Rattle.dom_store.specs.Propagation.{Runs, Says}
-use Rattle.fzn_model.specs.Terms.{at_val}
-use Rattle.dom_store.specs.Laws.{loses_within, runs_refl, runs_trans, runs_still, suits_run, none_before, smaller}
+use Rattle.dom_store.proofs.Opposites.{opposite_strong}
+use Rattle.fzn_model.specs.Values.{largest}
+use Rattle.fzn_model.specs.Booleans.{FitsBox}
+use Rattle.dom_store.specs.Narrowing.{Prunes}
+use Rattle.dom_store.specs.Propagation.{RanMeans}
+use Rattle.fzn_model.proofs.Terms.{at_val}
+use Rattle.dom_store.proofs.Laws.{prunes_within, prunes_refl, prunes_trans, prunes_still, fits_pruned, none_before, smaller}
 use Rattle.prop_engine.specs.declared.sides.Sides.{Sides}
 use Rattle.prop_engine.specs.declared.sides.Sides.TheVariants as sides
 use Rattle.prop_engine.specs.declared.sides.Side.{Side}
 use Rattle.prop_engine.specs.declared.sides.Side.TheVariants as side
 use Rattle.prop_engine.specs.Plans.{CanHold}
 use Rattle.prop_engine.specs.Kinds.{IsWhole}
-use Rattle.prop_engine.specs.Fixing.{Settles}
-use Rattle.prop_engine.specs.Reified.{Belongs, IsSide, SidesSuit, SideRuns, SideSays}
+use Rattle.prop_engine.specs.Fixing.{WholeMeans}
+use Rattle.prop_engine.specs.Reified.{Belongs, IsSide, SidesFit, SidePrunes, SideMeans}
 
 -- ---- the kinds whose propagator owes the whole strength
 owed_strong : (box : List (List ℤ)) (c : Con) → IsWhole c → IsOwed box c → IsStrong box c
@@ -46,45 +49,45 @@ owed_strong box (con.AllDiffExcept xs taken) whole owed = record { kind = owed.k
 owed_strong box (con.CumulUsed tasks used b) whole owed = record { kind = owed.kind; checked = owed.checked }
 owed_strong box (con.Table xs rows) whole owed = record { kind = owed.kind; checked = owed.checked }
 
-says_one : (c : Con) (old new : List (List ℤ)) (answer : Ran) → IsWhole c → Says c old new answer → Settles c old new answer
-says_one c old new ran.Kept whole says = λ e. owed_strong new c whole says
-says_one c old new ran.Empty whole says = says
-says_one c old new ran.EarlyStop whole says = says
+means_one : (c : Con) (old new : List (List ℤ)) (answer : Ran) → IsWhole c → RanMeans c old new answer → WholeMeans c old new answer
+means_one c old new ran.Kept whole means = λ e. owed_strong new c whole means
+means_one c old new ran.Empty whole means = means
+means_one c old new ran.EarlyStop whole means = means
 
-pub says_settles : {E : Type 0} (c : Con) (old new : List (List ℤ)) (result : Result Ran E) → IsWhole c → IfOk result (Says c old new) → IfOk result (Settles c old new)
-says_settles c old new (Ok answer) whole says = says_one c old new answer whole says
-says_settles c old new (Err e) whole says = tt
+pub means_settles : {E : Type 0} (c : Con) (old new : List (List ℤ)) (result : Result Ran E) → IsWhole c → IfOk result (RanMeans c old new) → IfOk result (WholeMeans c old new)
+means_settles c old new (Ok answer) whole means = means_one c old new answer whole means
+means_settles c old new (Err e) whole means = tt
 
 -- ---- what the sides are over
-term_in : (c : Con) (term : Term) (flag : Bool) (held : Sides) (box : List (List ℤ)) → Belongs c term flag held → Suits box c → TermIn (length box) term
-term_in (con.Reif b r f) term flag held box belongs suits = subst (TermIn (length box)) (sym belongs.0) suits.kept.1
-term_in c term flag held box belongs suits = absurd belongs
+term_in : (c : Con) (term : Term) (flag : Bool) (held : Sides) (box : List (List ℤ)) → Belongs c term flag held → FitsBox box c → TermIn (length box) term
+term_in (con.Reif b r f) term flag held box belongs fits_box = subst (TermIn (length box)) (sym belongs.0) fits_box.kept.1
+term_in c term flag held box belongs fits_box = absurd belongs
 
-base_suits : (box : List (List ℤ)) (b : Base) (r : Term) (f : Bool) → Suits box (con.Reif b r f) → Suits box (con.Base b)
-base_suits box b r f suits = record { kept = suits.kept.0; booleans = suits.booleans.0 }
+base_fits : (box : List (List ℤ)) (b : Base) (r : Term) (f : Bool) → FitsBox box (con.Reif b r f) → FitsBox box (con.Base b)
+base_fits box b r f fits_box = record { kept = fits_box.kept.0; booleans = fits_box.booleans.0 }
 
-opposite_suits : (box : List (List ℤ)) (l : Lin) (r : Term) (f : Bool) → Suits box (con.Reif (base.Lin l) r f) → CanHold (con.Reif (base.Lin l) r f) → Suits box (con.Base (base.Lin (opposite l)))
+opposite_fits : (box : List (List ℤ)) (l : Lin) (r : Term) (f : Bool) → FitsBox box (con.Reif (base.Lin l) r f) → CanHold (con.Reif (base.Lin l) r f) → FitsBox box (con.Base (base.Lin (opposite l)))
 unfolding opposite
-opposite_suits box l r f suits able = record {
+opposite_fits box l r f fits_box able = record {
   kept = record {
-    sum = opposite_kept l.rel (length box) l.terms l.r suits.kept.0.sum;
-    constant = let small = opposite_small l.rel l.terms l.r 1000000 able.1 in omega (arith, small);
+    sum = opposite_in_limits l.rel (length box) l.terms l.r fits_box.kept.0.sum;
+    constant = let small = opposite_small l.rel l.terms l.r largest able.1 in omega (arith, small);
   };
   booleans = tt;
 }
 
-sides_suit : (c : Con) (term : Term) (flag : Bool) (held : Sides) (box : List (List ℤ)) → Belongs c term flag held → Suits box c → CanHold c → SidesSuit held box
-unfolding SidesSuit
-sides_suit (con.Reif (base.Lin l) r f) term flag (sides.Linear must denied) box belongs suits able = (
-  subst (Suits box) (sym belongs.2.0) (base_suits box (base.Lin l) r f suits),
-  subst (Suits box) (sym belongs.2.1) (opposite_suits box l r f suits able),
+sides_fit : (c : Con) (term : Term) (flag : Bool) (held : Sides) (box : List (List ℤ)) → Belongs c term flag held → FitsBox box c → CanHold c → SidesFit held box
+unfolding SidesFit
+sides_fit (con.Reif (base.Lin l) r f) term flag (sides.Linear must denied) box belongs fits_box able = (
+  subst (FitsBox box) (sym belongs.2.0) (base_fits box (base.Lin l) r f fits_box),
+  subst (FitsBox box) (sym belongs.2.1) (opposite_fits box l r f fits_box able),
 )
-sides_suit (con.Reif (base.Clause c) r f) term flag (sides.Clausal must) box belongs suits able = subst (Suits box) (sym belongs.2) (base_suits box (base.Clause c) r f suits)
-sides_suit (con.Reif (base.Member m) r f) term flag (sides.Clausal must) box belongs suits able = subst (Suits box) (sym belongs.2) (base_suits box (base.Member m) r f suits)
-sides_suit (con.Reif (base.Clause c) r f) term flag (sides.Linear must denied) box belongs suits able = absurd belongs.2
-sides_suit (con.Reif (base.Member m) r f) term flag (sides.Linear must denied) box belongs suits able = absurd belongs.2
-sides_suit (con.Reif (base.Lin l) r f) term flag (sides.Clausal must) box belongs suits able = absurd belongs.2
-sides_suit c term flag held box belongs suits able = absurd belongs
+sides_fit (con.Reif (base.Clause c) r f) term flag (sides.Clausal must) box belongs fits_box able = subst (FitsBox box) (sym belongs.2) (base_fits box (base.Clause c) r f fits_box)
+sides_fit (con.Reif (base.Member m) r f) term flag (sides.Clausal must) box belongs fits_box able = subst (FitsBox box) (sym belongs.2) (base_fits box (base.Member m) r f fits_box)
+sides_fit (con.Reif (base.Clause c) r f) term flag (sides.Linear must denied) box belongs fits_box able = absurd belongs.2
+sides_fit (con.Reif (base.Member m) r f) term flag (sides.Linear must denied) box belongs fits_box able = absurd belongs.2
+sides_fit (con.Reif (base.Lin l) r f) term flag (sides.Clausal must) box belongs fits_box able = absurd belongs.2
+sides_fit c term flag held box belongs fits_box able = absurd belongs
 
 -- ---- what an assignment of the box with the constraint has
 differ : (f : Bool) → bit f ≡ bit (not f) → ⊥
@@ -92,62 +95,62 @@ differ true e = omega (arith, ints, e)
 differ false e = omega (arith, ints, e)
 
 must_holds : (b : Base) (r : Term) (f : Bool) (box : List (List ℤ)) (θ : List ℤ) → IsBox box → TermIn (length box) r → IsAt box r (bit f) → InBox box θ → Holds (con.Reif b r f) θ → HoldsBase b θ
-must_holds b r f box θ sound inside at lies holds = holds.1 (at_val box r (bit f) θ sound inside at lies)
+must_holds b r f box θ well_formed inside at lies holds = holds.1 (at_val box r (bit f) θ well_formed inside at lies)
 
 denied_fails : (b : Base) (r : Term) (f : Bool) (box : List (List ℤ)) (θ : List ℤ) → IsBox box → TermIn (length box) r → IsAt box r (bit (not f)) → InBox box θ → Holds (con.Reif b r f) θ → HoldsBase b θ → ⊥
-denied_fails b r f box θ sound inside at lies holds base = differ f (sym (holds.0 base) ∙ at_val box r (bit (not f)) θ sound inside at lies)
+denied_fails b r f box θ well_formed inside at lies holds base = differ f (sym (holds.0 base) ∙ at_val box r (bit (not f)) θ well_formed inside at lies)
 
 opposite_holds : (l : Lin) (r : Term) (f : Bool) (box : List (List ℤ)) (θ : List ℤ) → IsBox box → TermIn (length box) r → IsAt box r (bit (not f)) → InBox box θ → Holds (con.Reif (base.Lin l) r f) θ → Holds (con.Base (base.Lin (opposite l))) θ
 unfolding opposite
-opposite_holds l r f box θ sound inside at lies holds = (opposite_stands l.rel l.terms l.r θ).1 (denied_fails (base.Lin l) r f box θ sound inside at lies holds)
+opposite_holds l r f box θ well_formed inside at lies holds = (opposite_stands l.rel l.terms l.r θ).1 (denied_fails (base.Lin l) r f box θ well_formed inside at lies holds)
 
 -- the constraint of a side holds wherever the reified one does
 abbrev Follows : Con → Con → List (List ℤ) → Type 0
 Follows c d box = (θ : List ℤ) → InBox box θ → Holds c θ → Holds d θ
 
-runs_as : (c d : Con) (s t : Stored) → Follows c d s.box → Runs d s t → Runs c s t
-runs_as c d s t follows runs = record { loses = loses_within (Holds d) (Holds c) s.box t.box runs.loses follows; saved = runs.saved; changes = runs.changes }
+prunes_as : (c d : Con) (s t : Stored) → Follows c d s.box → Prunes (Holds d) s t → Prunes (Holds c) s t
+prunes_as c d s t follows prunes = prunes_within (Holds d) (Holds c) s t prunes follows
 
-runs_none : (c : Con) (s t : Stored) → t ≡ s → Runs c s t
-runs_none c s t e = subst (λ (x : Stored). Runs c s x) (sym e) (runs_refl c s)
+prunes_none : (c : Con) (s t : Stored) → t ≡ s → Prunes (Holds c) s t
+prunes_none c s t e = subst (λ (x : Stored). Prunes (Holds c) s x) (sym e) (prunes_refl (Holds c) s)
 
-says_as : (c d : Con) (old s t : Stored) (answer : Ran) → Follows c d s.box → Runs c old s → Says d s.box t.box answer → (t.box ≡ old.box → IsOwed t.box d → IsStrong t.box c) → Settles c old.box t.box answer
-says_as c d old s t ran.Kept follows runs says strong = λ e. strong e says
-says_as c d old s t ran.Empty follows runs says strong = none_before (Holds c) old.box s.box runs.loses (λ θ lies holds. says θ lies (follows θ lies holds))
-says_as c d old s t ran.EarlyStop follows runs says strong = let less = smaller (Holds c) old.box s.box runs.loses in omega (arith, less, says)
+means_as : (c d : Con) (old s t : Stored) (answer : Ran) → Follows c d s.box → Prunes (Holds c) old s → RanMeans d s.box t.box answer → (t.box ≡ old.box → IsOwed t.box d → IsStrong t.box c) → WholeMeans c old.box t.box answer
+means_as c d old s t ran.Kept follows prunes means strong = λ e. strong e means
+means_as c d old s t ran.Empty follows prunes means strong = none_before (Holds c) old.box s.box prunes.loses (λ θ lies holds. means θ lies (follows θ lies holds))
+means_as c d old s t ran.EarlyStop follows prunes means strong = let less = smaller (Holds c) old.box s.box prunes.loses in omega (arith, less, means)
 
-says_none : (c : Con) (old s t : Stored) (answer : Ran) → answer ≡ ran.Kept → (t.box ≡ old.box → IsStrong t.box c) → Settles c old.box t.box answer
-says_none c old s t answer kept strong = subst (Settles c old.box t.box) (sym kept) strong
+means_none : (c : Con) (old s t : Stored) (answer : Ran) → answer ≡ ran.Kept → (t.box ≡ old.box → IsStrong t.box c) → WholeMeans c old.box t.box answer
+means_none c old s t answer kept strong = subst (WholeMeans c old.box t.box) (sym kept) strong
 
 -- ---- the side that is run
 at_of : (box : List (List ℤ)) (term r : Term) (flag f : Bool) (to : Bool → Bool) → term ≡ r → flag ≡ f → IsAt box term (bit (to flag)) → IsAt box r (bit (to f))
 at_of box term r flag f to same also at = subst (λ x. IsAt box r (bit (to x))) also (subst (λ t. IsAt box t (bit (to flag))) same at)
 
 must_follows : (b : Base) (r : Term) (f : Bool) (d : Con) (box : List (List ℤ)) → d ≡ con.Base b → IsBox box → TermIn (length box) r → IsAt box r (bit f) → Follows (con.Reif b r f) d box
-must_follows b r f d box same sound inside at θ lies holds = subst (λ (x : Con). Holds x θ) (sym same) (must_holds b r f box θ sound inside at lies holds)
+must_follows b r f d box same well_formed inside at θ lies holds = subst (λ (x : Con). Holds x θ) (sym same) (must_holds b r f box θ well_formed inside at lies holds)
 
 denied_follows : (l : Lin) (r : Term) (f : Bool) (d : Con) (box : List (List ℤ)) → d ≡ con.Base (base.Lin (opposite l)) → IsBox box → TermIn (length box) r → IsAt box r (bit (not f)) → Follows (con.Reif (base.Lin l) r f) d box
-denied_follows l r f d box same sound inside at θ lies holds = subst (λ (x : Con). Holds x θ) (sym same) (opposite_holds l r f box θ sound inside at lies holds)
+denied_follows l r f d box same well_formed inside at θ lies holds = subst (λ (x : Con). Holds x θ) (sym same) (opposite_holds l r f box θ well_formed inside at lies holds)
 
-side_runs : (c : Con) (term : Term) (flag : Bool) (held : Sides) (which : Side) (s t : Stored) → Belongs c term flag held → Suits s.box c → IsBox s.box → IsSide s.box term flag which → SideRuns held which s t → Runs c s t
-unfolding IsSide SideRuns
-side_runs (con.Reif b r f) term flag (sides.Linear must denied) side.Open s t belongs suits sound is runs = runs_none (con.Reif b r f) s t runs
-side_runs (con.Reif b r f) term flag (sides.Clausal must) side.Open s t belongs suits sound is runs = runs_none (con.Reif b r f) s t runs
-side_runs (con.Reif (base.Lin l) r f) term flag (sides.Linear must denied) side.Must s t belongs suits sound is runs = runs_as _ must s t (must_follows (base.Lin l) r f must s.box belongs.2.0 sound suits.kept.1 (at_of s.box term r flag f (λ x. x) belongs.0 belongs.1 is)) runs
-side_runs (con.Reif (base.Lin l) r f) term flag (sides.Linear must denied) side.Denied s t belongs suits sound is runs = runs_as _ denied s t (denied_follows l r f denied s.box belongs.2.1 sound suits.kept.1 (at_of s.box term r flag f not belongs.0 belongs.1 is)) runs
-side_runs (con.Reif (base.Clause c) r f) term flag (sides.Clausal must) side.Must s t belongs suits sound is runs = runs_as _ must s t (must_follows (base.Clause c) r f must s.box belongs.2 sound suits.kept.1 (at_of s.box term r flag f (λ x. x) belongs.0 belongs.1 is)) runs
-side_runs (con.Reif (base.Member m) r f) term flag (sides.Clausal must) side.Must s t belongs suits sound is runs = runs_as _ must s t (must_follows (base.Member m) r f must s.box belongs.2 sound suits.kept.1 (at_of s.box term r flag f (λ x. x) belongs.0 belongs.1 is)) runs
-side_runs (con.Reif (base.Clause c) r f) term flag (sides.Clausal must) side.Denied s t belongs suits sound is runs = runs_none _ s t runs
-side_runs (con.Reif (base.Member m) r f) term flag (sides.Clausal must) side.Denied s t belongs suits sound is runs = runs_none _ s t runs
-side_runs (con.Reif (base.Clause c) r f) term flag (sides.Linear must denied) side.Must s t belongs suits sound is runs = absurd belongs.2
-side_runs (con.Reif (base.Clause c) r f) term flag (sides.Linear must denied) side.Denied s t belongs suits sound is runs = absurd belongs.2
-side_runs (con.Reif (base.Member m) r f) term flag (sides.Linear must denied) side.Must s t belongs suits sound is runs = absurd belongs.2
-side_runs (con.Reif (base.Member m) r f) term flag (sides.Linear must denied) side.Denied s t belongs suits sound is runs = absurd belongs.2
-side_runs (con.Reif (base.Lin l) r f) term flag (sides.Clausal must) side.Must s t belongs suits sound is runs = absurd belongs.2
-side_runs (con.Reif (base.Lin l) r f) term flag (sides.Clausal must) side.Denied s t belongs suits sound is runs = absurd belongs.2
-side_runs c term flag held which s t belongs suits sound is runs = absurd belongs
+side_prunes : (c : Con) (term : Term) (flag : Bool) (held : Sides) (which : Side) (s t : Stored) → Belongs c term flag held → FitsBox s.box c → IsBox s.box → IsSide s.box term flag which → SidePrunes held which s t → Prunes (Holds c) s t
+unfolding IsSide SidePrunes
+side_prunes (con.Reif b r f) term flag (sides.Linear must denied) side.Open s t belongs fits_box well_formed is prunes = prunes_none (con.Reif b r f) s t prunes
+side_prunes (con.Reif b r f) term flag (sides.Clausal must) side.Open s t belongs fits_box well_formed is prunes = prunes_none (con.Reif b r f) s t prunes
+side_prunes (con.Reif (base.Lin l) r f) term flag (sides.Linear must denied) side.Must s t belongs fits_box well_formed is prunes = prunes_as (con.Reif (base.Lin l) r f) must s t (must_follows (base.Lin l) r f must s.box belongs.2.0 well_formed fits_box.kept.1 (at_of s.box term r flag f (λ x. x) belongs.0 belongs.1 is)) prunes
+side_prunes (con.Reif (base.Lin l) r f) term flag (sides.Linear must denied) side.Denied s t belongs fits_box well_formed is prunes = prunes_as (con.Reif (base.Lin l) r f) denied s t (denied_follows l r f denied s.box belongs.2.1 well_formed fits_box.kept.1 (at_of s.box term r flag f not belongs.0 belongs.1 is)) prunes
+side_prunes (con.Reif (base.Clause c) r f) term flag (sides.Clausal must) side.Must s t belongs fits_box well_formed is prunes = prunes_as (con.Reif (base.Clause c) r f) must s t (must_follows (base.Clause c) r f must s.box belongs.2 well_formed fits_box.kept.1 (at_of s.box term r flag f (λ x. x) belongs.0 belongs.1 is)) prunes
+side_prunes (con.Reif (base.Member m) r f) term flag (sides.Clausal must) side.Must s t belongs fits_box well_formed is prunes = prunes_as (con.Reif (base.Member m) r f) must s t (must_follows (base.Member m) r f must s.box belongs.2 well_formed fits_box.kept.1 (at_of s.box term r flag f (λ x. x) belongs.0 belongs.1 is)) prunes
+side_prunes (con.Reif (base.Clause c) r f) term flag (sides.Clausal must) side.Denied s t belongs fits_box well_formed is prunes = prunes_none (con.Reif (base.Clause c) r f) s t prunes
+side_prunes (con.Reif (base.Member m) r f) term flag (sides.Clausal must) side.Denied s t belongs fits_box well_formed is prunes = prunes_none (con.Reif (base.Member m) r f) s t prunes
+side_prunes (con.Reif (base.Clause c) r f) term flag (sides.Linear must denied) side.Must s t belongs fits_box well_formed is prunes = absurd belongs.2
+side_prunes (con.Reif (base.Clause c) r f) term flag (sides.Linear must denied) side.Denied s t belongs fits_box well_formed is prunes = absurd belongs.2
+side_prunes (con.Reif (base.Member m) r f) term flag (sides.Linear must denied) side.Must s t belongs fits_box well_formed is prunes = absurd belongs.2
+side_prunes (con.Reif (base.Member m) r f) term flag (sides.Linear must denied) side.Denied s t belongs fits_box well_formed is prunes = absurd belongs.2
+side_prunes (con.Reif (base.Lin l) r f) term flag (sides.Clausal must) side.Must s t belongs fits_box well_formed is prunes = absurd belongs.2
+side_prunes (con.Reif (base.Lin l) r f) term flag (sides.Clausal must) side.Denied s t belongs fits_box well_formed is prunes = absurd belongs.2
+side_prunes c term flag held which s t belongs fits_box well_formed is prunes = absurd belongs
 
--- ---- what it says
+-- ---- what it means
 strong_of : (b : Base) (r : Term) (f : Bool) (box : List (List ℤ)) → IsOwed box (con.Reif b r f) → (IsAt box r (bit f) → BaseIsStrong box b) → (IsAt box r (bit (not f)) → DeniedIsStrong box b) → IsStrong box (con.Reif b r f)
 strong_of b r f box owed must denied = record {
   kind = record { shown = owed.kind.shown; refuted = owed.kind.refuted; must = must; denied = denied };
@@ -158,9 +161,9 @@ strong_of b r f box owed must denied = record {
 apart : (box : List (List ℤ)) (r : Term) (f : Bool) → IsAt box r (bit f) → IsAt box r (bit (not f)) → ⊥
 apart box r f at other = differ f (sym at.low ∙ other.low)
 
-module _ (b : Base) (r : Term) (f : Bool) (old s t : Stored) (runs : Runs (con.Reif b r f) old s) (then : Runs (con.Reif b r f) s t) (owed : IsOwed s.box (con.Reif b r f)) where
+module _ (b : Base) (r : Term) (f : Bool) (old s t : Stored) (prunes : Prunes (Holds (con.Reif b r f)) old s) (then : Prunes (Holds (con.Reif b r f)) s t) (owed : IsOwed s.box (con.Reif b r f)) where
   as_then : t.box ≡ old.box → t.box ≡ s.box
-  as_then e = e ∙ sym (runs_still (con.Reif b r f) old s t runs then e)
+  as_then e = e ∙ sym (prunes_still (Holds (con.Reif b r f)) (Holds (con.Reif b r f)) old s t prunes then e)
 
   owed_then : t.box ≡ old.box → IsOwed t.box (con.Reif b r f)
   owed_then e = subst (λ (x : List (List ℤ)). IsOwed x (con.Reif b r f)) (sym (as_then e)) owed
@@ -193,51 +196,51 @@ opposite_done l box done = opposite_strong box l.rel l.terms l.r done.kind
 never_of : (box : List (List ℤ)) (term r : Term) (flag f : Bool) (to : Bool → Bool) → term ≡ r → flag ≡ f → (IsAt box term (bit (to flag)) → ⊥) → IsAt box r (bit (to f)) → ⊥
 never_of box term r flag f to same also never at = never (at_of box r term f flag to (sym same) (sym also) at)
 
-settles : (c : Con) (term : Term) (flag : Bool) (held : Sides) (which : Side) (old s t : Stored) (answer : Ran) → Belongs c term flag held → Suits s.box c → IsBox s.box → IsSide s.box term flag which → Runs c old s → IsOwed s.box c → SideRuns held which s t → Runs c s t → SideSays held which s.box t.box answer → Settles c old.box t.box answer
-unfolding IsSide SideRuns SideSays
-settles (con.Reif b r f) term flag (sides.Linear must denied) side.Open old s t answer belongs suits sound is runs owed ran then says =
-    says_none (con.Reif b r f) old s t answer says (open_strong b r f old s t runs then owed (never_of s.box term r flag f (λ x. x) belongs.0 belongs.1 is.0) (never_of s.box term r flag f not belongs.0 belongs.1 is.1))
-settles (con.Reif b r f) term flag (sides.Clausal must) side.Open old s t answer belongs suits sound is runs owed ran then says =
-    says_none (con.Reif b r f) old s t answer says (open_strong b r f old s t runs then owed (never_of s.box term r flag f (λ x. x) belongs.0 belongs.1 is.0) (never_of s.box term r flag f not belongs.0 belongs.1 is.1))
-settles (con.Reif (base.Lin l) r f) term flag (sides.Linear must denied) side.Must old s t answer belongs suits sound is runs owed ran then says =
+settles : (c : Con) (term : Term) (flag : Bool) (held : Sides) (which : Side) (old s t : Stored) (answer : Ran) → Belongs c term flag held → FitsBox s.box c → IsBox s.box → IsSide s.box term flag which → Prunes (Holds c) old s → IsOwed s.box c → SidePrunes held which s t → Prunes (Holds c) s t → SideMeans held which s.box t.box answer → WholeMeans c old.box t.box answer
+unfolding IsSide SidePrunes SideMeans
+settles (con.Reif b r f) term flag (sides.Linear must denied) side.Open old s t answer belongs fits_box well_formed is prunes owed ran then means =
+    means_none (con.Reif b r f) old s t answer means (open_strong b r f old s t prunes then owed (never_of s.box term r flag f (λ x. x) belongs.0 belongs.1 is.0) (never_of s.box term r flag f not belongs.0 belongs.1 is.1))
+settles (con.Reif b r f) term flag (sides.Clausal must) side.Open old s t answer belongs fits_box well_formed is prunes owed ran then means =
+    means_none (con.Reif b r f) old s t answer means (open_strong b r f old s t prunes then owed (never_of s.box term r flag f (λ x. x) belongs.0 belongs.1 is.0) (never_of s.box term r flag f not belongs.0 belongs.1 is.1))
+settles (con.Reif (base.Lin l) r f) term flag (sides.Linear must denied) side.Must old s t answer belongs fits_box well_formed is prunes owed ran then means =
     let at = at_of s.box term r flag f (λ x. x) belongs.0 belongs.1 is in
-    says_as _ must old s t answer (must_follows (base.Lin l) r f must s.box belongs.2.0 sound suits.kept.1 at) runs says (must_strong (base.Lin l) r f old s t runs then owed must belongs.2.0 at)
-settles (con.Reif (base.Lin l) r f) term flag (sides.Linear must denied) side.Denied old s t answer belongs suits sound is runs owed ran then says =
+    means_as _ must old s t answer (must_follows (base.Lin l) r f must s.box belongs.2.0 well_formed fits_box.kept.1 at) prunes means (must_strong (base.Lin l) r f old s t prunes then owed must belongs.2.0 at)
+settles (con.Reif (base.Lin l) r f) term flag (sides.Linear must denied) side.Denied old s t answer belongs fits_box well_formed is prunes owed ran then means =
     let at = at_of s.box term r flag f not belongs.0 belongs.1 is in
-    says_as _ denied old s t answer (denied_follows l r f denied s.box belongs.2.1 sound suits.kept.1 at) runs says (λ e done. denied_strong (base.Lin l) r f old s t runs then owed at e (opposite_done l t.box (subst (IsOwed t.box) belongs.2.1 done)))
-settles (con.Reif (base.Clause c) r f) term flag (sides.Clausal must) side.Must old s t answer belongs suits sound is runs owed ran then says =
+    means_as _ denied old s t answer (denied_follows l r f denied s.box belongs.2.1 well_formed fits_box.kept.1 at) prunes means (λ e done. denied_strong (base.Lin l) r f old s t prunes then owed at e (opposite_done l t.box (subst (IsOwed t.box) belongs.2.1 done)))
+settles (con.Reif (base.Clause c) r f) term flag (sides.Clausal must) side.Must old s t answer belongs fits_box well_formed is prunes owed ran then means =
     let at = at_of s.box term r flag f (λ x. x) belongs.0 belongs.1 is in
-    says_as _ must old s t answer (must_follows (base.Clause c) r f must s.box belongs.2 sound suits.kept.1 at) runs says (must_strong (base.Clause c) r f old s t runs then owed must belongs.2 at)
-settles (con.Reif (base.Member m) r f) term flag (sides.Clausal must) side.Must old s t answer belongs suits sound is runs owed ran then says =
+    means_as _ must old s t answer (must_follows (base.Clause c) r f must s.box belongs.2 well_formed fits_box.kept.1 at) prunes means (must_strong (base.Clause c) r f old s t prunes then owed must belongs.2 at)
+settles (con.Reif (base.Member m) r f) term flag (sides.Clausal must) side.Must old s t answer belongs fits_box well_formed is prunes owed ran then means =
     let at = at_of s.box term r flag f (λ x. x) belongs.0 belongs.1 is in
-    says_as _ must old s t answer (must_follows (base.Member m) r f must s.box belongs.2 sound suits.kept.1 at) runs says (must_strong (base.Member m) r f old s t runs then owed must belongs.2 at)
-settles (con.Reif (base.Clause c) r f) term flag (sides.Clausal must) side.Denied old s t answer belongs suits sound is runs owed ran then says =
+    means_as _ must old s t answer (must_follows (base.Member m) r f must s.box belongs.2 well_formed fits_box.kept.1 at) prunes means (must_strong (base.Member m) r f old s t prunes then owed must belongs.2 at)
+settles (con.Reif (base.Clause c) r f) term flag (sides.Clausal must) side.Denied old s t answer belongs fits_box well_formed is prunes owed ran then means =
     let at = at_of s.box term r flag f not belongs.0 belongs.1 is in
-    says_none _ old s t answer says (λ e. let now = owed_then (base.Clause c) r f old s t runs then owed e in denied_strong (base.Clause c) r f old s t runs then owed at e (now.kind.denied (at_then (base.Clause c) r f old s t runs then owed (bit (not f)) e at)))
-settles (con.Reif (base.Member m) r f) term flag (sides.Clausal must) side.Denied old s t answer belongs suits sound is runs owed ran then says =
+    means_none _ old s t answer means (λ e. let now = owed_then (base.Clause c) r f old s t prunes then owed e in denied_strong (base.Clause c) r f old s t prunes then owed at e (now.kind.denied (at_then (base.Clause c) r f old s t prunes then owed (bit (not f)) e at)))
+settles (con.Reif (base.Member m) r f) term flag (sides.Clausal must) side.Denied old s t answer belongs fits_box well_formed is prunes owed ran then means =
     let at = at_of s.box term r flag f not belongs.0 belongs.1 is in
-    says_none _ old s t answer says (λ e. let now = owed_then (base.Member m) r f old s t runs then owed e in denied_strong (base.Member m) r f old s t runs then owed at e (now.kind.denied (at_then (base.Member m) r f old s t runs then owed (bit (not f)) e at)))
-settles (con.Reif (base.Clause c) r f) term flag (sides.Linear must denied) side.Must old s t answer belongs suits sound is runs owed ran then says = absurd belongs.2
-settles (con.Reif (base.Clause c) r f) term flag (sides.Linear must denied) side.Denied old s t answer belongs suits sound is runs owed ran then says = absurd belongs.2
-settles (con.Reif (base.Member m) r f) term flag (sides.Linear must denied) side.Must old s t answer belongs suits sound is runs owed ran then says = absurd belongs.2
-settles (con.Reif (base.Member m) r f) term flag (sides.Linear must denied) side.Denied old s t answer belongs suits sound is runs owed ran then says = absurd belongs.2
-settles (con.Reif (base.Lin l) r f) term flag (sides.Clausal must) side.Must old s t answer belongs suits sound is runs owed ran then says = absurd belongs.2
-settles (con.Reif (base.Lin l) r f) term flag (sides.Clausal must) side.Denied old s t answer belongs suits sound is runs owed ran then says = absurd belongs.2
-settles c term flag held which old s t answer belongs suits sound is runs owed ran then says = absurd belongs
+    means_none _ old s t answer means (λ e. let now = owed_then (base.Member m) r f old s t prunes then owed e in denied_strong (base.Member m) r f old s t prunes then owed at e (now.kind.denied (at_then (base.Member m) r f old s t prunes then owed (bit (not f)) e at)))
+settles (con.Reif (base.Clause c) r f) term flag (sides.Linear must denied) side.Must old s t answer belongs fits_box well_formed is prunes owed ran then means = absurd belongs.2
+settles (con.Reif (base.Clause c) r f) term flag (sides.Linear must denied) side.Denied old s t answer belongs fits_box well_formed is prunes owed ran then means = absurd belongs.2
+settles (con.Reif (base.Member m) r f) term flag (sides.Linear must denied) side.Must old s t answer belongs fits_box well_formed is prunes owed ran then means = absurd belongs.2
+settles (con.Reif (base.Member m) r f) term flag (sides.Linear must denied) side.Denied old s t answer belongs fits_box well_formed is prunes owed ran then means = absurd belongs.2
+settles (con.Reif (base.Lin l) r f) term flag (sides.Clausal must) side.Must old s t answer belongs fits_box well_formed is prunes owed ran then means = absurd belongs.2
+settles (con.Reif (base.Lin l) r f) term flag (sides.Clausal must) side.Denied old s t answer belongs fits_box well_formed is prunes owed ran then means = absurd belongs.2
+settles c term flag held which old s t answer belongs fits_box well_formed is prunes owed ran then means = absurd belongs
 
-settles_side : {E : Type 0} (c : Con) (term : Term) (flag : Bool) (held : Sides) (which : Side) (old s t : Stored) (result : Result Ran E) → Belongs c term flag held → Suits s.box c → IsBox s.box → IsSide s.box term flag which → Runs c old s → IsOwed s.box c → SideRuns held which s t → IfOk result (SideSays held which s.box t.box) → IfOk result (Settles c old.box t.box)
-settles_side c term flag held which old s t (Ok answer) belongs suits sound is runs owed then says = settles c term flag held which old s t answer belongs suits sound is runs owed then (side_runs c term flag held which s t belongs suits sound is then) says
-settles_side c term flag held which old s t (Err e) belongs suits sound is runs owed then says = tt
+settled_by : {E : Type 0} (c : Con) (term : Term) (flag : Bool) (held : Sides) (which : Side) (old s t : Stored) (result : Result Ran E) → Belongs c term flag held → FitsBox s.box c → IsBox s.box → IsSide s.box term flag which → Prunes (Holds c) old s → IsOwed s.box c → SidePrunes held which s t → IfOk result (SideMeans held which s.box t.box) → IfOk result (WholeMeans c old.box t.box)
+settled_by c term flag held which old s t (Ok answer) belongs fits_box well_formed is prunes owed then means = settles c term flag held which old s t answer belongs fits_box well_formed is prunes owed then (side_prunes c term flag held which s t belongs fits_box well_formed is then) means
+settled_by c term flag held which old s t (Err e) belongs fits_box well_formed is prunes owed then means = tt
 
 -- after a run of the constraint's own propagator
-pub term_after : (c : Con) (term : Term) (flag : Bool) (held : Sides) (r s : Stored) → Belongs c term flag held → Suits r.box c → Runs c r s → TermIn (length s.box) term
-term_after c term flag held r s belongs suits runs = term_in c term flag held s.box belongs (suits_run c c r s runs refl suits)
+pub term_after : (c : Con) (term : Term) (flag : Bool) (held : Sides) (r s : Stored) → Belongs c term flag held → FitsBox r.box c → Prunes (Holds c) r s → TermIn (length s.box) term
+term_after c term flag held r s belongs fits_box prunes = term_in c term flag held s.box belongs (fits_pruned c c r s prunes refl fits_box)
 
-pub sides_after : (c : Con) (term : Term) (flag : Bool) (held : Sides) (r s : Stored) → Belongs c term flag held → Suits r.box c → Runs c r s → CanHold c → SidesSuit held s.box
-sides_after c term flag held r s belongs suits runs able = sides_suit c term flag held s.box belongs (suits_run c c r s runs refl suits) able
+pub sides_after : (c : Con) (term : Term) (flag : Bool) (held : Sides) (r s : Stored) → Belongs c term flag held → FitsBox r.box c → Prunes (Holds c) r s → CanHold c → SidesFit held s.box
+sides_after c term flag held r s belongs fits_box prunes able = sides_fit c term flag held s.box belongs (fits_pruned c c r s prunes refl fits_box) able
 
-pub parts_run : (c : Con) (term : Term) (flag : Bool) (held : Sides) (which : Side) (r s t : Stored) → Belongs c term flag held → Suits r.box c → Runs c r s → IsBox s.box → IsSide s.box term flag which → SideRuns held which s t → Runs c r t
-parts_run c term flag held which r s t belongs suits runs sound is then = runs_trans c r s t runs (side_runs c term flag held which s t belongs (suits_run c c r s runs refl suits) sound is then)
+pub sides_prune : (c : Con) (term : Term) (flag : Bool) (held : Sides) (which : Side) (r s t : Stored) → Belongs c term flag held → FitsBox r.box c → Prunes (Holds c) r s → IsBox s.box → IsSide s.box term flag which → SidePrunes held which s t → Prunes (Holds c) r t
+sides_prune c term flag held which r s t belongs fits_box prunes well_formed is then = prunes_trans (Holds c) r s t prunes (side_prunes c term flag held which s t belongs (fits_pruned c c r s prunes refl fits_box) well_formed is then)
 
-pub parts_settle : {E : Type 0} (c : Con) (term : Term) (flag : Bool) (held : Sides) (which : Side) (r s t : Stored) (result : Result Ran E) → Belongs c term flag held → Suits r.box c → Runs c r s → IsBox s.box → IsSide s.box term flag which → IsOwed s.box c → SideRuns held which s t → IfOk result (SideSays held which s.box t.box) → IfOk result (Settles c r.box t.box)
-parts_settle c term flag held which r s t result belongs suits runs sound is owed then says = settles_side c term flag held which r s t result belongs (suits_run c c r s runs refl suits) sound is runs owed then says
+pub sides_settle : {E : Type 0} (c : Con) (term : Term) (flag : Bool) (held : Sides) (which : Side) (r s t : Stored) (result : Result Ran E) → Belongs c term flag held → FitsBox r.box c → Prunes (Holds c) r s → IsBox s.box → IsSide s.box term flag which → IsOwed s.box c → SidePrunes held which s t → IfOk result (SideMeans held which s.box t.box) → IfOk result (WholeMeans c r.box t.box)
+sides_settle c term flag held which r s t result belongs fits_box prunes well_formed is owed then means = settled_by c term flag held which r s t result belongs (fits_pruned c c r s prunes refl fits_box) well_formed is prunes owed then means

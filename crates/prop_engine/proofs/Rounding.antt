@@ -1,19 +1,19 @@
 -- A round: the goal's cut, and then a run of each propagator.
-use Rattle.std.proofs.Common.{◌≡◌, ◌<◌, ◌≤◌, List, get_or, ℤ, ◌<ℤ◌, refl, sym, ◌∙◌, arith, subst}
+use Rattle.std.proofs.Common.{◌≡◌, ◌<◌, ◌≤◌, List, get_or, ℤ, ◌<ℤ◌, sym, ◌∙◌, arith, subst}
 use Rattle.std.specs.Prelude.{All}
 use Rattle.fzn_model.specs.declared.con.Con.{Con}
 use Rattle.fzn_model.specs.declared.goal.Goal.{Goal}
 use Rattle.dom_store.specs.Stores.{Stored, box_size}
-use Rattle.dom_store.specs.Narrowing.{HasNone}
-use Rattle.fzn_model.specs.Booleans.{Suits}
+use Rattle.dom_store.specs.Narrowing.{Prunes, HasNone}
+use Rattle.fzn_model.specs.Booleans.{FitsBox}
 use Rattle.dom_store.specs.Propagation.{FallsFar}
-use Rattle.dom_store.specs.Laws.{loses_refl, loses_trans, loses_more, none_before, smaller, same_size, suits_after, still}
+use Rattle.dom_store.proofs.Laws.{prunes_trans, prunes_within, prunes_still, none_before, smaller, same_size, fits_after}
 use Rattle.dom_store.specs.declared.pass.Passed.TheVariants as passed
 use Rattle.dom_store.specs.declared.propagator.Ran.{Ran}
 use Rattle.dom_store.specs.declared.propagator.Ran.TheVariants as ran
-use Rattle.prop_engine.specs.Goals.{IsBelow, Cheapens, CutSays, greatest_cost}
+use Rattle.prop_engine.specs.Goals.{IsBelow, CutMeans, greatest_cost}
 use Rattle.prop_engine.specs.Plans.{Plan, CanHold}
-use Rattle.prop_engine.specs.Fixing.{Cheaper, Fixes, IsFixpoint, MeetsEach, Sweeps, SweepSays, RoundSays}
+use Rattle.prop_engine.specs.Fixing.{Cheaper, IsFixpoint, MeetsEach, SweepMeans, RoundMeans}
 
 below_of : (cs : List Con) (g : Goal) (below : ℤ) (θ : List ℤ) → Cheaper (record { cons = cs; goal = g }) below θ → IsBelow g below θ
 unfolding IsBelow
@@ -23,69 +23,49 @@ meets_of : (cs : List Con) (g : Goal) (below : ℤ) (θ : List ℤ) → Cheaper 
 unfolding MeetsEach
 meets_of cs g below θ p = p.holds
 
-pub cut_fixes : (cs : List Con) (g : Goal) (below : ℤ) (old new : Stored) → Cheapens g below old new → Fixes (record { cons = cs; goal = g }) below old new
-cut_fixes cs g below old new cut = record {
-  loses = loses_more (IsBelow g below) (Cheaper (record { cons = cs; goal = g }) below) old.box new.box cut.loses (below_of cs g below);
-  saved = cut.saved;
-  changes = cut.changes;
-}
+pub cut_prunes : (cs : List Con) (g : Goal) (below : ℤ) (old new : Stored) → Prunes (IsBelow g below) old new → Prunes (Cheaper (record { cons = cs; goal = g }) below) old new
+cut_prunes cs g below old new cut = prunes_within (IsBelow g below) (Cheaper (record { cons = cs; goal = g }) below) old new cut (λ θ lies p. below_of cs g below θ p)
 
-pub cut_suits : (cs : List Con) (g : Goal) (below : ℤ) (old new : Stored) → Cheapens g below old new → All (Suits old.box) cs → All (Suits new.box) cs
-cut_suits cs g below old new cut suits k d h = suits_after (IsBelow g below) old.box new.box (get_or cs k d) cut.loses (suits k d h)
+pub cut_fits : (cs : List Con) (g : Goal) (below : ℤ) (old new : Stored) → Prunes (IsBelow g below) old new → All (FitsBox old.box) cs → All (FitsBox new.box) cs
+cut_fits cs g below old new cut fits_box k d h = fits_after (IsBelow g below) old.box new.box (get_or cs k d) cut.loses (fits_box k d h)
 
-sweep_fixes : (cs : List Con) (g : Goal) (below : ℤ) (old new : Stored) → Sweeps cs old new → Fixes (record { cons = cs; goal = g }) below old new
-sweep_fixes cs g below old new sweeps = record {
-  loses = loses_more (MeetsEach cs) (Cheaper (record { cons = cs; goal = g }) below) old.box new.box sweeps.loses (meets_of cs g below);
-  saved = sweeps.saved;
-  changes = sweeps.changes;
-}
+pub round_prunes : (cs : List Con) (g : Goal) (below : ℤ) (old mid new : Stored) → Prunes (IsBelow g below) old mid → Prunes (MeetsEach cs) mid new → Prunes (Cheaper (record { cons = cs; goal = g }) below) old new
+round_prunes cs g below old mid new cut sweep =
+    prunes_trans (Cheaper (record { cons = cs; goal = g }) below) old mid new (cut_prunes cs g below old mid cut) (prunes_within (MeetsEach cs) (Cheaper (record { cons = cs; goal = g }) below) mid new sweep (λ θ lies p. meets_of cs g below θ p))
 
-pub fixes_trans : (plan : Plan) (below : ℤ) (a b c : Stored) → Fixes plan below a b → Fixes plan below b c → Fixes plan below a c
-fixes_trans plan below a b c first second = record {
-  loses = loses_trans (Cheaper plan below) a.box b.box c.box first.loses second.loses;
-  saved = second.saved ∙ first.saved;
-  changes = omega (arith, first.changes, second.changes);
-}
-
-pub round_fixes : (cs : List Con) (g : Goal) (below : ℤ) (old mid new : Stored) → Cheapens g below old mid → Sweeps cs mid new → Fixes (record { cons = cs; goal = g }) below old new
-round_fixes cs g below old mid new cut sweeps = fixes_trans _ below old mid new (cut_fixes cs g below old mid cut) (sweep_fixes cs g below mid new sweeps)
-
-pub cut_none : (cs : List Con) (g : Goal) (below : ℤ) (old new : List (List ℤ)) → CutSays g below old new passed.Empty → RoundSays (record { cons = cs; goal = g }) below old new ran.Empty
-unfolding CutSays RoundSays
+pub cut_none : (cs : List Con) (g : Goal) (below : ℤ) (old new : List (List ℤ)) → CutMeans g below old new passed.Empty → RoundMeans (record { cons = cs; goal = g }) below old new ran.Empty
+unfolding CutMeans RoundMeans
 cut_none cs g below old new none θ lies p = none θ lies (below_of cs g below θ p)
 
-pub round_says : (cs : List Con) (g : Goal) (below : ℤ) (old mid new : Stored) (answer : Ran) → Cheapens g below old mid → Sweeps cs mid new → CutSays g below old.box mid.box passed.Done → SweepSays cs mid.box new.box answer → All CanHold cs → RoundSays (record { cons = cs; goal = g }) below old.box new.box answer
-unfolding CutSays SweepSays RoundSays
-round_says cs g below old mid new ran.Kept cut sweeps goal_says says able = λ e.
-    let same : mid.box ≡ old.box = still _ _ old.box mid.box new.box cut.loses sweeps.loses e in
+pub round_means : (cs : List Con) (g : Goal) (below : ℤ) (old mid new : Stored) (answer : Ran) → Prunes (IsBelow g below) old mid → Prunes (MeetsEach cs) mid new → CutMeans g below old.box mid.box passed.Done → SweepMeans cs mid.box new.box answer → All CanHold cs → RoundMeans (record { cons = cs; goal = g }) below old.box new.box answer
+unfolding CutMeans SweepMeans RoundMeans
+round_means cs g below old mid new ran.Kept cut sweep goal_means means able = λ e.
+    let same : mid.box ≡ old.box = prunes_still (IsBelow g below) (MeetsEach cs) old mid new cut sweep e in
     let again : new.box ≡ mid.box = e ∙ sym same in
     record {
-      strong = λ k d h. says again k d h;
-      cut = subst (λ b. greatest_cost b g <ℤ below) (sym again) goal_says;
+      strong = λ k d h. means again k d h;
+      cut = subst (λ b. greatest_cost b g <ℤ below) (sym again) goal_means;
     }
-round_says cs g below old mid new ran.Empty cut sweeps goal_says says able = λ θ lies p. says θ (cut.loses.kept θ lies (below_of cs g below θ p)) (meets_of cs g below θ p)
-round_says cs g below old mid new ran.EarlyStop cut sweeps goal_says says able =
+round_means cs g below old mid new ran.Empty cut sweep goal_means means able = λ θ lies p. means θ (cut.loses.kept θ lies (below_of cs g below θ p)) (meets_of cs g below θ p)
+round_means cs g below old mid new ran.EarlyStop cut sweep goal_means means able =
     let less = smaller (IsBelow g below) old.box mid.box cut.loses in
-    omega (arith, less, says)
+    omega (arith, less, means)
 
 -- rounds in a row
-pub fixes_refl : (plan : Plan) (below : ℤ) (s : Stored) → Fixes plan below s s
-fixes_refl plan below s = record { loses = loses_refl (Cheaper plan below) s.box; saved = refl; changes = omega arith }
+pub fits_fixed : (plan : Plan) (cs : List Con) (below : ℤ) (old new : Stored) → Prunes (Cheaper plan below) old new → All (FitsBox old.box) cs → All (FitsBox new.box) cs
+fits_fixed plan cs below old new prunes fits_box k d h = fits_after (Cheaper plan below) old.box new.box (get_or cs k d) prunes.loses (fits_box k d h)
 
-pub suits_fixed : (plan : Plan) (cs : List Con) (below : ℤ) (old new : Stored) → Fixes plan below old new → All (Suits old.box) cs → All (Suits new.box) cs
-suits_fixed plan cs below old new fixes suits k d h = suits_after (Cheaper plan below) old.box new.box (get_or cs k d) fixes.loses (suits k d h)
+pub none_at_first : (plan : Plan) (below : ℤ) (old now then : Stored) → Prunes (Cheaper plan below) old now → RoundMeans plan below now.box then.box ran.Empty → HasNone (Cheaper plan below) old.box
+unfolding RoundMeans
+none_at_first plan below old now then prunes none = none_before (Cheaper plan below) old.box now.box prunes.loses none
 
-pub none_at_first : (plan : Plan) (below : ℤ) (old now then : Stored) → Fixes plan below old now → RoundSays plan below now.box then.box ran.Empty → HasNone (Cheaper plan below) old.box
-unfolding RoundSays
-none_at_first plan below old now then fixes none = none_before (Cheaper plan below) old.box now.box fixes.loses none
+pub far_at_last : (plan : Plan) (below : ℤ) (old now then : Stored) → Prunes (Cheaper plan below) old now → RoundMeans plan below now.box then.box ran.EarlyStop → FallsFar old.box then.box
+unfolding RoundMeans
+far_at_last plan below old now then prunes far = let less = smaller (Cheaper plan below) old.box now.box prunes.loses in omega (arith, less, far)
 
-pub far_at_last : (plan : Plan) (below : ℤ) (old now then : Stored) → Fixes plan below old now → RoundSays plan below now.box then.box ran.EarlyStop → FallsFar old.box then.box
-unfolding RoundSays
-far_at_last plan below old now then fixes far = let less = smaller (Cheaper plan below) old.box now.box fixes.loses in omega (arith, less, far)
+pub kept_at_last : (plan : Plan) (below : ℤ) (now then : Stored) → Prunes (Cheaper plan below) now then → box_size then.box ≡ box_size now.box → RoundMeans plan below now.box then.box ran.Kept → IsFixpoint plan below then.box
+unfolding RoundMeans
+kept_at_last plan below now then prunes size means = means (same_size (Cheaper plan below) now.box then.box prunes.loses size)
 
-pub kept_at_last : (plan : Plan) (below : ℤ) (now then : Stored) → Fixes plan below now then → box_size then.box ≡ box_size now.box → RoundSays plan below now.box then.box ran.Kept → IsFixpoint plan below then.box
-unfolding RoundSays
-kept_at_last plan below now then fixes size says = says (same_size (Cheaper plan below) now.box then.box fixes.loses size)
-
-pub less : (plan : Plan) (below : ℤ) (now then : Stored) → Fixes plan below now then → (box_size then.box ≡ box_size now.box → ⊥) → box_size then.box < box_size now.box
-less plan below now then fixes differs = let most : box_size then.box ≤ box_size now.box = smaller (Cheaper plan below) now.box then.box fixes.loses in omega (arith, most)
+pub less : (plan : Plan) (below : ℤ) (now then : Stored) → Prunes (Cheaper plan below) now then → (box_size then.box ≡ box_size now.box → ⊥) → box_size then.box < box_size now.box
+less plan below now then prunes differs = let most : box_size then.box ≤ box_size now.box = smaller (Cheaper plan below) now.box then.box prunes.loses in omega (arith, most)

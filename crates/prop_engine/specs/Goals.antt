@@ -1,14 +1,12 @@
 -- The goal over a box, and solutions that cost less than a bound.
-use Rattle.std.specs.Prelude.{◌≡◌, ◌≤◌, ◌↔◌, List, ℤ, pos, neg_ℤ, ◌<ℤ◌, All}
+use Rattle.std.specs.Prelude.{◌↔◌, List, ℤ, pos, neg_ℤ, ◌<ℤ◌, All}
 use Rattle.fzn_model.specs.declared.con.Con.{Con}
 use Rattle.fzn_model.specs.declared.goal.Goal.{Goal}
 use Rattle.fzn_model.specs.declared.goal.Goal.TheVariants as goal
 use Rattle.fzn_model.specs.Meaning.{Holds}
 use Rattle.fzn_model.specs.Solutions.{goal_cost}
-use Rattle.fzn_model.specs.Kept.{IsValue}
-use Rattle.dom_store.specs.Answers.{Narrow, Same, Changed, Empty}
-use Rattle.dom_store.specs.Stores.{Stored}
-use Rattle.dom_store.specs.Narrowing.{Loses, HasNone}
+use Rattle.fzn_model.specs.Limits.{IsValue}
+use Rattle.dom_store.specs.Narrowing.{HasNone}
 use Rattle.fzn_model.specs.Bounds.{term_low, term_high}
 use Rattle.dom_store.specs.declared.pass.Passed.{Passed}
 use Rattle.dom_store.specs.declared.pass.Passed.TheVariants as passed
@@ -28,23 +26,11 @@ greatest_cost box (goal.Maximise t) = neg_ℤ (term_low box t)
 unfoldable pub IsBelow : Goal → ℤ → List ℤ → Type 0
 IsBelow g below θ = goal_cost g θ <ℤ below
 
--- only values go with which no cost is less than the bound; the levels stay
-pub record Cheapens (g : Goal) (below : ℤ) (old new : Stored) : Type 0 where
-  pub loses : Loses (IsBelow g below) old.box new.box
-  pub saved : new.saved ≡ old.saved
-  pub changes : old.changes ≤ new.changes
-
--- what cutting the goal says: no cost that the goal's domain allows reaches the bound; or each cost of the box does
-unfoldable pub CutSays : Goal → ℤ → List (List ℤ) → List (List ℤ) → Passed → Type 0
-CutSays g below old new passed.Done = greatest_cost new g <ℤ below
-CutSays g below old new passed.Empty = HasNone (IsBelow g below) old
+-- what cutting the goal means: no cost that the goal's domain allows reaches the bound; or each cost of the box does
+unfoldable pub CutMeans : Goal → ℤ → List (List ℤ) → List (List ℤ) → Passed → Type 0
+CutMeans g below old new passed.Done = greatest_cost new g <ℤ below
+CutMeans g below old new passed.Empty = HasNone (IsBelow g below) old
 
 -- a bound that lets the same costs through
 unfoldable pub SameBound : ℤ → ℤ → Type 0
 SameBound below near = (c : ℤ) → IsValue c → (c <ℤ below) ↔ (c <ℤ near)
-
--- what a narrowing of the goal's term answers
-abbrev pub passed_by : Narrow → Passed
-passed_by Same = passed.Done
-passed_by Changed = passed.Done
-passed_by Empty = passed.Empty

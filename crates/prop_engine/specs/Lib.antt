@@ -3,4 +3,3 @@ pub mod Plans
 pub mod Reified
 pub mod Fixing
 pub mod Kinds
-pub mod Laws

@@ -5,12 +5,18 @@ use Rattle.fzn_model.specs.declared.base.Base.TheVariants as base
 use Rattle.fzn_model.specs.declared.con.Con.{Con}
 use Rattle.fzn_model.specs.declared.con.Con.TheVariants as con
 use Rattle.fzn_model.specs.declared.goal.Goal.{Goal}
-use Rattle.fzn_model.specs.Kept.{IsValue, largest, GoalKept}
-use Rattle.fzn_model.specs.Booleans.{Suits}
+use Rattle.fzn_model.specs.Parts.{Parts}
+use Rattle.fzn_model.specs.Values.{largest}
+use Rattle.fzn_model.specs.Limits.{IsValue, GoalInLimits}
+use Rattle.fzn_model.specs.Booleans.{FitsBox}
 
 pub record Plan : Type 0 where
   pub cons : List Con
   pub goal : Goal
+
+-- the plan of a model
+abbrev pub plan_of : Parts → Plan
+plan_of m = record { cons = m.cons; goal = m.goal }
 
 -- a base whose opposite has numbers within the limits too
 abbrev pub CanTurn : Base → Type 0
@@ -24,5 +30,5 @@ CanHold c = ⊤
 
 -- the constraints and the goal are over the variables of the box, as where both are of one model
 pub record IsFor (box : List (List ℤ)) (plan : Plan) : Type 0 where
-  pub cons : All (Suits box) plan.cons
-  pub goal : GoalKept (length box) plan.goal
+  pub cons : All (FitsBox box) plan.cons
+  pub goal : GoalInLimits (length box) plan.goal

@@ -1,8 +1,9 @@
-ghost use Rattle.std.specs.Prelude.{◌≡◌, ◌++◌, ◌∷◌, [], take, length, IfOk, All};
-ghost use Rattle.fzn_model.specs.Kept.{GoalKept};
-ghost use Rattle.fzn_model.specs.Booleans.{Suits};
+ghost use Rattle.std.specs.Prelude.{◌≡◌, length, IfOk, All};
+ghost use Rattle.fzn_model.specs.Limits.{GoalInLimits};
+ghost use Rattle.fzn_model.specs.Booleans.{FitsBox};
+ghost use Rattle.dom_store.specs.Narrowing.{Prunes};
 ghost use Rattle.prop_engine.specs.Plans.{Plan, CanHold, IsFor};
-ghost use Rattle.prop_engine.specs.Fixing.{Fixes, Tells};
+ghost use Rattle.prop_engine.specs.Fixing.{Cheaper, FixedMeans};
 
 use crate::any::AnyProp;
 use crate::fixed::Fixed;
@@ -46,19 +47,19 @@ fn propagators_of(alloc: Global, cons: &[Con]) -> Result<Vec<AnyProp>, AllocErro
 const FAR: u64 = 100_000;
 
 /// Makes rounds until one of them removes nothing, or the domains have lost 100,000 values.
-#[tactic(auto, using(crate::proofs::Rounding::fixes_refl, crate::proofs::Rounding::fixes_trans, crate::proofs::Rounding::suits_fixed, crate::proofs::Rounding::none_at_first, crate::proofs::Rounding::far_at_last, crate::proofs::Rounding::kept_at_last, crate::proofs::Rounding::less))]
+#[tactic(auto, using(dom_store::proofs::Laws::prunes_refl, dom_store::proofs::Laws::prunes_trans, crate::proofs::Rounding::fits_fixed, crate::proofs::Rounding::none_at_first, crate::proofs::Rounding::far_at_last, crate::proofs::Rounding::kept_at_last, crate::proofs::Rounding::less))]
 fn rounds(
     propagators: &mut [AnyProp],
     goal: Goal,
     below: &i64,
     store: &mut Store,
 ) -> Result<Fixed, AllocError>
-    requires suits { All (Suits store.old.box) propagators.old }
+    requires fits_box { All (FitsBox store.old.box) propagators.old }
     requires can_hold { All CanHold propagators.old }
-    requires goal { GoalKept (length store.old.box) goal }
+    requires goal { GoalInLimits (length store.old.box) goal }
     ensures same { propagators.new ≡ propagators.old }
-    ensures fixes { Fixes (record { cons = propagators.old; goal = goal }) below.now store.old store.new }
-    ensures tells { IfOk result (Tells (record { cons = propagators.old; goal = goal }) below.now store.old.box store.new.box) }
+    ensures prunes { Prunes (Cheaper (record { cons = propagators.old; goal = goal }) below.now) store.old store.new }
+    ensures means { IfOk result (FixedMeans (record { cons = propagators.old; goal = goal }) below.now store.old.box store.new.box) }
 {
     let start = store.total();
     loop {
@@ -95,8 +96,8 @@ impl Engine {
     pub fn fix(&mut self, store: &mut Store, below: i64) -> Result<Fixed, AllocError>
         requires { IsFor store.old.box self.old }
         ensures same { self.new ≡ self.old }
-        ensures fixes { Fixes self.old below store.old store.new }
-        ensures tells { IfOk result (Tells self.old below store.old.box store.new.box) }
+        ensures prunes { Prunes (Cheaper self.old below) store.old store.new }
+        ensures means { IfOk result (FixedMeans self.old below store.old.box store.new.box) }
     {
         rounds(self.propagators.as_mut_slice(), self.goal, &below, store)
     }

@@ -1,10 +1,11 @@
 //! The propagators of a reified base: its own, and those of its sides.
 ghost use Rattle.std.specs.Prelude.{◌≡◌, IfOk};
-ghost use Rattle.fzn_model.specs.Booleans.{Suits};
-ghost use Rattle.dom_store.specs.Propagation.{Runs};
+ghost use Rattle.fzn_model.specs.Booleans.{FitsBox};
+ghost use Rattle.dom_store.specs.Narrowing.{Prunes};
 ghost use Rattle.prop_engine.specs.Plans.{CanHold};
-ghost use Rattle.prop_engine.specs.Fixing.{Settles};
+ghost use Rattle.prop_engine.specs.Fixing.{WholeMeans};
 ghost use Rattle.prop_engine.specs.Reified.{IsReified, Belongs};
+ghost use Rattle.fzn_model.specs.Meaning.{Holds};
 
 use crate::sides::{Sides, run_side, side_of};
 use dom_store::{Propagator, Ran, Store};
@@ -34,7 +35,7 @@ impl Model for Reified {
 }
 
 /// Runs the propagator of a reified base, and then what its term's side asks for.
-#[tactic(auto, using(crate::proofs::Reifying::term_after, crate::proofs::Reifying::parts_settle))]
+#[tactic(auto, using(crate::proofs::Reifying::term_after, crate::proofs::Reifying::sides_settle))]
 fn run_parts(
     own: &mut ReifProp,
     sides: &mut Sides,
@@ -43,12 +44,12 @@ fn run_parts(
     store: &mut Store,
 ) -> Result<Ran, AllocError>
     requires belongs { Belongs own.old term flag sides.old }
-    requires suits { Suits store.old.box own.old }
+    requires fits_box { FitsBox store.old.box own.old }
     requires can_hold { CanHold own.old }
     ensures own { own.new ≡ own.old }
     ensures sides { sides.new ≡ sides.old }
-    ensures runs { Runs own.old store.old store.new }
-    ensures says { IfOk result (Settles own.old store.old.box store.new.box) }
+    ensures prunes { Prunes (Holds own.old) store.old store.new }
+    ensures means { IfOk result (WholeMeans own.old store.old.box store.new.box) }
 {
     match own.run(store)? {
         Ran::Kept => {}
@@ -79,11 +80,11 @@ impl Reified {
 
     /// Narrows for the constraint.
     pub(crate) fn run(&mut self, store: &mut Store) -> Result<Ran, AllocError>
-        requires suits { Suits store.old.box self.old }
+        requires fits_box { FitsBox store.old.box self.old }
         requires can_hold { CanHold self.old }
         ensures same { self.new ≡ self.old }
-        ensures runs { Runs self.old store.old store.new }
-        ensures says { IfOk result (Settles self.old store.old.box store.new.box) }
+        ensures prunes { Prunes (Holds self.old) store.old store.new }
+        ensures means { IfOk result (WholeMeans self.old store.old.box store.new.box) }
     {
         run_parts(&mut self.own, &mut self.sides, self.term, self.flag, store)
     }

@@ -1,9 +1,10 @@
 //! Rounds: the goal's cut, and then each propagator once.
-ghost use Rattle.std.specs.Prelude.{◌≡◌, ◌<◌, IfOk, All, length, slice_index_or};
-ghost use Rattle.fzn_model.specs.Kept.{GoalKept};
-ghost use Rattle.fzn_model.specs.Booleans.{Suits};
+ghost use Rattle.std.specs.Prelude.{◌≡◌, ◌<◌, IfOk, All, length};
+ghost use Rattle.fzn_model.specs.Limits.{GoalInLimits};
+ghost use Rattle.fzn_model.specs.Booleans.{FitsBox};
 ghost use Rattle.prop_engine.specs.Plans.{CanHold};
-ghost use Rattle.prop_engine.specs.Fixing.{Sweeps, SweepSays, RunsAt, SaysAt, Fixes, RoundSays};
+ghost use Rattle.prop_engine.specs.Fixing.{Cheaper, MeetsEach, SweepMeans, PrunesAt, MeansAt, RoundMeans};
+ghost use Rattle.dom_store.specs.Narrowing.{Prunes};
 
 use crate::any::AnyProp;
 use crate::goal::cut_goal;
@@ -12,26 +13,26 @@ use fzn_model::Goal;
 use std::alloc::AllocError;
 
 /// Runs one of the propagators.
-#[tactic(auto, using(crate::proofs::Sweeping::runs_at, crate::proofs::Sweeping::says_at))]
+#[tactic(auto, using(crate::proofs::Sweeping::prunes_at, crate::proofs::Sweeping::means_at))]
 fn run_one(propagators: &mut [AnyProp], at: usize, store: &mut Store) -> Result<Ran, AllocError>
     requires at { at < length propagators.old }
-    requires suits { All (Suits store.old.box) propagators.old }
+    requires fits_box { All (FitsBox store.old.box) propagators.old }
     requires can_hold { All CanHold propagators.old }
     ensures same { propagators.new ≡ propagators.old }
-    ensures runs { RunsAt propagators.old at store.old store.new }
-    ensures says { IfOk result (SaysAt propagators.old at store.old.box store.new.box) }
+    ensures prunes { PrunesAt propagators.old at store.old store.new }
+    ensures means { IfOk result (MeansAt propagators.old at store.old.box store.new.box) }
 {
     propagators[at].run(store)
 }
 
 /// Runs each propagator once.
-#[tactic(auto, using(crate::proofs::Sweeping::sweeps_refl, crate::proofs::Sweeping::strong_none, crate::proofs::Sweeping::suits_next, crate::proofs::Sweeping::sweeps_next, crate::proofs::Sweeping::strong_next, crate::proofs::Sweeping::none_next, crate::proofs::Sweeping::far_next, crate::proofs::Sweeping::sweep_kept))]
+#[tactic(auto, using(dom_store::proofs::Laws::prunes_refl, crate::proofs::Sweeping::strong_none, crate::proofs::Sweeping::fits_next, crate::proofs::Sweeping::prunes_next, crate::proofs::Sweeping::strong_next, crate::proofs::Sweeping::none_next, crate::proofs::Sweeping::far_next, crate::proofs::Sweeping::sweep_kept))]
 fn sweep(propagators: &mut [AnyProp], store: &mut Store) -> Result<Ran, AllocError>
-    requires suits { All (Suits store.old.box) propagators.old }
+    requires fits_box { All (FitsBox store.old.box) propagators.old }
     requires can_hold { All CanHold propagators.old }
     ensures same { propagators.new ≡ propagators.old }
-    ensures sweeps { Sweeps propagators.old store.old store.new }
-    ensures says { IfOk result (SweepSays propagators.old store.old.box store.new.box) }
+    ensures prunes { Prunes (MeetsEach propagators.old) store.old store.new }
+    ensures means { IfOk result (SweepMeans propagators.old store.old.box store.new.box) }
 {
     for at in 0..propagators.len() {
         match run_one(propagators, at, store)? {
@@ -44,19 +45,19 @@ fn sweep(propagators: &mut [AnyProp], store: &mut Store) -> Result<Ran, AllocErr
 }
 
 /// Cuts the goal, and runs each propagator once.
-#[tactic(auto, using(crate::proofs::Rounding::cut_fixes, crate::proofs::Rounding::cut_suits, crate::proofs::Rounding::round_fixes, crate::proofs::Rounding::cut_none, crate::proofs::Rounding::round_says))]
+#[tactic(auto, using(crate::proofs::Rounding::cut_fits, crate::proofs::Rounding::round_prunes, crate::proofs::Rounding::cut_none, crate::proofs::Rounding::round_means))]
 pub(crate) fn round(
     propagators: &mut [AnyProp],
     goal: Goal,
     below: &i64,
     store: &mut Store,
 ) -> Result<Ran, AllocError>
-    requires suits { All (Suits store.old.box) propagators.old }
+    requires fits_box { All (FitsBox store.old.box) propagators.old }
     requires can_hold { All CanHold propagators.old }
-    requires goal { GoalKept (length store.old.box) goal }
+    requires goal { GoalInLimits (length store.old.box) goal }
     ensures same { propagators.new ≡ propagators.old }
-    ensures fixes { Fixes (record { cons = propagators.old; goal = goal }) below.now store.old store.new }
-    ensures says { IfOk result (RoundSays (record { cons = propagators.old; goal = goal }) below.now store.old.box store.new.box) }
+    ensures prunes { Prunes (Cheaper (record { cons = propagators.old; goal = goal }) below.now) store.old store.new }
+    ensures means { IfOk result (RoundMeans (record { cons = propagators.old; goal = goal }) below.now store.old.box store.new.box) }
 {
     match cut_goal(store, goal, below) {
         Passed::Empty => Ok(Ran::Empty),

@@ -7,6 +7,7 @@ mod goals;
 mod listing;
 mod logic;
 mod sums;
+mod turned;
 
 use dom_store::Store;
 use fzn_model::{BoxView, Model, top_of};
@@ -34,7 +35,7 @@ fn bound_of(model: &Model, below: Option<i64>) -> i64
 }
 
 /// The store of a model, and what fixing it below the bound answers; below the greatest one, where none is said.
-#[tactic(auto, using(prop_engine::specs::Laws::made_for, crate::proofs::Making::none_empty))]
+#[tactic(auto, using(prop_engine::proofs::Models::same_model, dom_store::proofs::Made::none_empty))]
 fn fixed(alloc: Global, model: &Model, below: Option<i64>) -> Result<(Fixed, Store), Fail> {
     let Some(mut store) = Store::new(alloc, model)? else {
         return Err("a domain is empty")?;
@@ -94,17 +95,17 @@ fn model_of(alloc: Global, text: &str) -> Result<Model, Fail> {
     }
 }
 
-/// Fails where fixing the text's model has another answer, or leaves other domains.
+/// Fails where fixing the model of a text has another answer, or leaves other domains.
 fn fixes(
     rt: &impl Abort,
     alloc: Global,
+    model: &Model,
     text: &str,
     below: Option<i64>,
     answer: Fixed,
     domains: &[&[(i64, i64)]],
 ) -> Result<(), Fail> {
-    let model = model_of(alloc, text)?;
-    let (found, store) = fixed(alloc, &model, below)?;
+    let (found, store) = fixed(alloc, model, below)?;
     assert_eq!(rt; found, answer, "{text}");
     if answer == Fixed::Kept || !domains.is_empty() {
         has_domains(rt, alloc, &store, domains, text)?;
@@ -115,7 +116,8 @@ fn fixes(
 /// Fails where a row has another answer, or leaves other domains.
 fn all_fix(rt: &impl Abort, alloc: Global, rows: &[Row]) -> Result<(), Fail> {
     for (text, answer, domains) in rows {
-        fixes(rt, alloc, text, None, *answer, domains)?;
+        let model = model_of(alloc, text)?;
+        fixes(rt, alloc, &model, text, None, *answer, domains)?;
     }
     Ok(())
 }

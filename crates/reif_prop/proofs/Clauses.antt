@@ -10,7 +10,7 @@ use Rattle.fzn_model.specs.declared.term.Term.TheVariants as term
 use Rattle.fzn_model.specs.declared.clause.Clause.{Clause}
 use Rattle.fzn_model.specs.declared.base.Base.TheVariants as base
 use Rattle.fzn_model.specs.Meaning.{val, HasValue}
-use Rattle.fzn_model.specs.Kept.{TermIn, IsBit}
+use Rattle.fzn_model.specs.Limits.{TermIn, IsBit}
 use Rattle.fzn_model.specs.Boxes.{IsBox, InBox, domain_at}
 use Rattle.dom_store.specs.declared.pass.Passed.{Passed}
 use Rattle.dom_store.specs.declared.pass.Passed.TheVariants as passed
@@ -18,30 +18,32 @@ use Rattle.dom_store.specs.Stores.{Stored}
 use Rattle.fzn_model.specs.Bounds.{IsAt, TermHas}
 use Rattle.fzn_model.specs.Booleans.{IsBoolean}
 use Rattle.dom_store.specs.Strength.{AllFalse}
-use Rattle.fzn_model.specs.Terms.{val_has}
+use Rattle.fzn_model.proofs.Terms.{val_has}
 use Rattle.reif_prop.specs.Parts.{IsOver}
-use Rattle.reif_prop.specs.Steps.{Steps, Fails}
-use Rattle.reif_prop.specs.Denying.{Has, AllHave, ValueIs, FirstAre, IsDenied}
-use Rattle.reif_prop.proofs.Stepping.{step_idle, step_as, step_end, step_then}
+use Rattle.dom_store.specs.Steps.{Step}
+use Rattle.reif_prop.specs.Failing.{Fails}
+use Rattle.dom_store.specs.Steps.{Gives, Is, ValueIs}
+use Rattle.reif_prop.specs.Denying.{AllHave, FirstAre, IsDenied}
+use Rattle.dom_store.proofs.Stepping.{step_idle, step_for, step_end, step_both}
 
 -- ---- a list of terms that all have a value
 module _ (ts : List Term) (v : ℤ) where
-  pub first_none : (s : Stored) → IsBox s.box → Steps (FirstAre ts v 0) (AllHave ts v) s s passed.Done
+  pub first_none : (s : Stored) → IsBox s.box → Step (FirstAre ts v 0) (AllHave ts v) s s passed.Done
   unfolding FirstAre
-  first_none s sound = step_idle (FirstAre ts v 0) (AllHave ts v) s sound (λ k d h. absurd (omega arith))
+  first_none s well_formed = step_idle (FirstAre ts v 0) (AllHave ts v) s well_formed (λ k d h. absurd (omega arith))
 
-  one_has : (k : ℕ) (t : Term) → k < length ts → get_or ts k t ≡ t → (θ : List ℤ) → AllHave ts v θ → Has t v θ
-  unfolding AllHave Has
+  one_has : (k : ℕ) (t : Term) → k < length ts → get_or ts k t ≡ t → (θ : List ℤ) → AllHave ts v θ → Gives (Is v) t θ
+  unfolding AllHave Gives
   one_has k t h is θ all = subst (λ u. val u θ ≡ v) is (all k t h)
 
-  first_then : (n : ℕ) (t : Term) (a b d : Stored) (result : Passed) → n < length ts → get_or ts n t ≡ t → Steps (FirstAre ts v n) (AllHave ts v) a b passed.Done → Steps (ValueIs t v) (Has t v) b d result
-      → Steps (λ box. FirstAre ts v n box × ValueIs t v box) (AllHave ts v) a d result
-  first_then n t a b d result h is so_far one = step_then (FirstAre ts v n) (ValueIs t v) (AllHave ts v) a b d result so_far
-      (step_as (ValueIs t v) (ValueIs t v) (Has t v) (AllHave ts v) b d result (λ same at. at) (λ θ lies all. one_has n t h is θ all) one)
+  first_then : (n : ℕ) (t : Term) (a b d : Stored) (result : Passed) → n < length ts → get_or ts n t ≡ t → Step (FirstAre ts v n) (AllHave ts v) a b passed.Done → Step (ValueIs t v) (Gives (Is v) t) b d result
+      → Step (λ box. FirstAre ts v n box × ValueIs t v box) (AllHave ts v) a d result
+  first_then n t a b d result h is so_far one = step_both (FirstAre ts v n) (ValueIs t v) (AllHave ts v) a b d result so_far
+      (step_for (ValueIs t v) (ValueIs t v) (Gives (Is v) t) (AllHave ts v) b d result (λ same at. at) (λ θ lies all. one_has n t h is θ all) one)
 
-  pub first_more : (n : ℕ) (t : Term) (a b d : Stored) → n < length ts → get_or ts n t ≡ t → Steps (FirstAre ts v n) (AllHave ts v) a b passed.Done → Steps (ValueIs t v) (Has t v) b d passed.Done → Steps (FirstAre ts v (n + 1)) (AllHave ts v) a d passed.Done
+  pub first_more : (n : ℕ) (t : Term) (a b d : Stored) → n < length ts → get_or ts n t ≡ t → Step (FirstAre ts v n) (AllHave ts v) a b passed.Done → Step (ValueIs t v) (Gives (Is v) t) b d passed.Done → Step (FirstAre ts v (n + 1)) (AllHave ts v) a d passed.Done
   unfolding FirstAre ValueIs
-  first_more n t a b d h is so_far one = step_as (λ box. FirstAre ts v n box × ValueIs t v box) (FirstAre ts v (n + 1)) (AllHave ts v) (AllHave ts v) a d passed.Done
+  first_more n t a b d h is so_far one = step_for (λ box. FirstAre ts v n box × ValueIs t v box) (FirstAre ts v (n + 1)) (AllHave ts v) (AllHave ts v) a d passed.Done
       (λ same both k e less. elim (cases_lt k n) [
         | inl before ↦ both.0 k e before
         | inr after ↦
@@ -51,12 +53,12 @@ module _ (ts : List Term) (v : ℤ) where
       ])
       (λ θ lies all. all) (first_then n t a b d passed.Done h is so_far one)
 
-  pub first_end : (n m : ℕ) (t : Term) (a b d : Stored) → n < length ts → get_or ts n t ≡ t → Steps (FirstAre ts v n) (AllHave ts v) a b passed.Done → Steps (ValueIs t v) (Has t v) b d passed.Empty → Steps (FirstAre ts v m) (AllHave ts v) a d passed.Empty
+  pub first_end : (n m : ℕ) (t : Term) (a b d : Stored) → n < length ts → get_or ts n t ≡ t → Step (FirstAre ts v n) (AllHave ts v) a b passed.Done → Step (ValueIs t v) (Gives (Is v) t) b d passed.Empty → Step (FirstAre ts v m) (AllHave ts v) a d passed.Empty
   first_end n m t a b d h is so_far one = step_end (λ box. FirstAre ts v n box × ValueIs t v box) (FirstAre ts v m) (AllHave ts v) a d (first_then n t a b d passed.Empty h is so_far one)
 
-  pub first_all : (n : ℕ) (a b : Stored) → length ts ≤ n → Steps (FirstAre ts v n) (AllHave ts v) a b passed.Done → Steps (FirstAre ts v (length ts)) (AllHave ts v) a b passed.Done
+  pub first_all : (n : ℕ) (a b : Stored) → length ts ≤ n → Step (FirstAre ts v n) (AllHave ts v) a b passed.Done → Step (FirstAre ts v (length ts)) (AllHave ts v) a b passed.Done
   unfolding FirstAre
-  first_all n a b all step = step_as (FirstAre ts v n) (FirstAre ts v (length ts)) (AllHave ts v) (AllHave ts v) a b passed.Done (λ same at k e less. at k e (omega arith)) (λ θ lies have. have) step
+  first_all n a b all step = step_for (FirstAre ts v n) (FirstAre ts v (length ts)) (AllHave ts v) (AllHave ts v) a b passed.Done (λ same at k e less. at k e (omega arith)) (λ θ lies have. have) step
 
 -- ---- Booleans
 -- a Boolean has a value 0 or 1
@@ -85,17 +87,17 @@ module _ (c : Clause) where
       let not_zero : val t θ ≡ pos 0 → ⊥ = λ e. fails (inr (k, t, h, get_or_default c.neg k t d h, e)) in
       omega (arith, ints, bit.0, bit.1, not_zero)
 
-  pub positive_false : (n : ℕ) (old new : Stored) (result : Passed) → IsOver old.box (base.Clause c) → Steps (FirstAre c.pos (pos 0) n) (AllHave c.pos (pos 0)) old new result → Steps (FirstAre c.pos (pos 0) n) (Fails (base.Clause c)) old new result
-  positive_false n old new result over step = step_as (FirstAre c.pos (pos 0) n) (FirstAre c.pos (pos 0) n) (AllHave c.pos (pos 0)) (Fails (base.Clause c)) old new result (λ same at. at) (all_zero old.box over) step
+  pub positive_false : (n : ℕ) (old new : Stored) (result : Passed) → IsOver old.box (base.Clause c) → Step (FirstAre c.pos (pos 0) n) (AllHave c.pos (pos 0)) old new result → Step (FirstAre c.pos (pos 0) n) (Fails (base.Clause c)) old new result
+  positive_false n old new result over step = step_for (FirstAre c.pos (pos 0) n) (FirstAre c.pos (pos 0) n) (AllHave c.pos (pos 0)) (Fails (base.Clause c)) old new result (λ same at. at) (all_zero old.box over) step
 
-  negative_false : (n : ℕ) (old new : Stored) (result : Passed) → IsOver old.box (base.Clause c) → Steps (FirstAre c.neg (pos 1) n) (AllHave c.neg (pos 1)) old new result → Steps (FirstAre c.neg (pos 1) n) (Fails (base.Clause c)) old new result
-  negative_false n old new result over step = step_as (FirstAre c.neg (pos 1) n) (FirstAre c.neg (pos 1) n) (AllHave c.neg (pos 1)) (Fails (base.Clause c)) old new result (λ same at. at) (all_one old.box over) step
+  negative_false : (n : ℕ) (old new : Stored) (result : Passed) → IsOver old.box (base.Clause c) → Step (FirstAre c.neg (pos 1) n) (AllHave c.neg (pos 1)) old new result → Step (FirstAre c.neg (pos 1) n) (Fails (base.Clause c)) old new result
+  negative_false n old new result over step = step_for (FirstAre c.neg (pos 1) n) (FirstAre c.neg (pos 1) n) (AllHave c.neg (pos 1)) (Fails (base.Clause c)) old new result (λ same at. at) (all_one old.box over) step
 
-  pub clause_end : (n : ℕ) (a b : Stored) → Steps (FirstAre c.pos (pos 0) n) (Fails (base.Clause c)) a b passed.Empty → Steps (IsDenied (base.Clause c)) (Fails (base.Clause c)) a b passed.Empty
+  pub clause_end : (n : ℕ) (a b : Stored) → Step (FirstAre c.pos (pos 0) n) (Fails (base.Clause c)) a b passed.Empty → Step (IsDenied (base.Clause c)) (Fails (base.Clause c)) a b passed.Empty
   clause_end n a b step = step_end (FirstAre c.pos (pos 0) n) (IsDenied (base.Clause c)) (Fails (base.Clause c)) a b step
 
-  pub clause_denied : (a b d : Stored) (result : Passed) → IsOver b.box (base.Clause c) → Steps (FirstAre c.pos (pos 0) (length c.pos)) (Fails (base.Clause c)) a b passed.Done → Steps (FirstAre c.neg (pos 1) (length c.neg)) (AllHave c.neg (pos 1)) b d result → Steps (IsDenied (base.Clause c)) (Fails (base.Clause c)) a d result
+  pub clause_denied : (a b d : Stored) (result : Passed) → IsOver b.box (base.Clause c) → Step (FirstAre c.pos (pos 0) (length c.pos)) (Fails (base.Clause c)) a b passed.Done → Step (FirstAre c.neg (pos 1) (length c.neg)) (AllHave c.neg (pos 1)) b d result → Step (IsDenied (base.Clause c)) (Fails (base.Clause c)) a d result
   unfolding FirstAre IsDenied AllFalse
-  clause_denied a b d result over first then = step_as (λ box. FirstAre c.pos (pos 0) (length c.pos) box × FirstAre c.neg (pos 1) (length c.neg) box) (IsDenied (base.Clause c)) (Fails (base.Clause c)) (Fails (base.Clause c)) a d result
+  clause_denied a b d result over first then = step_for (λ box. FirstAre c.pos (pos 0) (length c.pos) box × FirstAre c.neg (pos 1) (length c.neg) box) (IsDenied (base.Clause c)) (Fails (base.Clause c)) (Fails (base.Clause c)) a d result
       (λ same both. ((λ k e h. both.0 k e h), (λ k e h. both.1 k e h))) (λ θ lies fails. fails)
-      (step_then (FirstAre c.pos (pos 0) (length c.pos)) (FirstAre c.neg (pos 1) (length c.neg)) (Fails (base.Clause c)) a b d result first (negative_false (length c.neg) b d result over then))
+      (step_both (FirstAre c.pos (pos 0) (length c.pos)) (FirstAre c.neg (pos 1) (length c.neg)) (Fails (base.Clause c)) a b d result first (negative_false (length c.neg) b d result over then))

@@ -1,16 +1,17 @@
 -- The values that a term has, against a set.
-use Rattle.std.proofs.Common.{◌≡◌, ℕ, zero, suc, ◌+◌, ◌-◌, ◌<◌, ◌≤◌, ◌⊎◌, ◌↔◌, List, [], ◌∷◌, length, get_or, refl, sym, subst, ◌∙◌, arith, below_more, inl, inr}
-use Rattle.std.specs.Prelude.{Bool, true, false, ℤ, pos, negsuc, ◌+ℤ◌, ◌≤ℤ◌, ◌<ℤ◌, int_lt, All}
+use Rattle.std.proofs.Common.{◌≡◌, ℕ, zero, suc, ◌+◌, ◌-◌, ◌<◌, ◌≤◌, ◌⊎◌, ◌↔◌, List, length, get_or, refl, sym, subst, ◌∙◌, arith, below_more, inl, inr}
+use Rattle.std.specs.Prelude.{Bool, true, false, ℤ, pos, ◌+ℤ◌, ◌≤ℤ◌, ◌<ℤ◌, int_lt, All}
 use Rattle.std.specs.Int.{int_min, int_max}
 use Rattle.std.proofs.lemmas.Int.{ints, clamps}
 use Rattle.std.proofs.lemmas.Bool.{cases_lt}
 use Rattle.std.proofs.lemmas.List.{get_or_default}
 use Rattle.fzn_model.specs.declared.term.Term.{Term}
-use Rattle.fzn_model.specs.Sets.{IsIn, IsWithin, AreAbove, AreRuns}
-use Rattle.fzn_model.specs.Kept.{TermIn}
+use Rattle.fzn_model.specs.Sets.{IsIn, IsWithin, AreRuns}
+use Rattle.fzn_model.specs.Limits.{TermIn}
 use Rattle.fzn_model.specs.Boxes.{IsBox}
 use Rattle.fzn_model.specs.Bounds.{term_low, term_high, TermHas}
-use Rattle.fzn_model.specs.Terms.{has_between}
+use Rattle.fzn_model.proofs.Reaching.{both_rise}
+use Rattle.fzn_model.proofs.Terms.{has_between}
 use Rattle.reif_prop.specs.Values.{HasWithin, IsFreeOf, HasNoneBefore, AllInside, AllOutside, run_at, IsPast, IsBefore, HasInGap, GapsAreFree}
 
 pub is_less : (a b : ℤ) → int_lt a b ≡ true → a <ℤ b
@@ -28,27 +29,8 @@ order a b = by_test (int_lt a b) refl
     by_test false is = inr (not_less a b is)
 
 -- ---- the runs of a set
--- a run of those above a number begins above it, and has its ends in order
-above_run : (before : ℤ) (runs : List (ℤ × ℤ)) (k : ℕ) (d : ℤ × ℤ) → AreAbove before runs → k < length runs → (before <ℤ (get_or runs k d).0) × ((get_or runs k d).0 ≤ℤ (get_or runs k d).1)
-above_run before [] k d a h = absurd (omega arith)
-above_run before (r ∷ rs) zero d a h = (omega (arith, ints, a.0), a.1)
-above_run before (r ∷ rs) (suc k) d a h = let p = above_run r.1 rs k d a.2 (omega arith) in (omega (arith, ints, a.0, a.1, p.0), p.1)
-
--- both ends rise
-rise_above : (before : ℤ) (runs : List (ℤ × ℤ)) (i j : ℕ) (d : ℤ × ℤ) → AreAbove before runs → i ≤ j → j < length runs → ((get_or runs i d).0 ≤ℤ (get_or runs j d).0) × ((get_or runs i d).1 ≤ℤ (get_or runs j d).1)
-rise_above before [] i j d a le h = absurd (omega arith)
-rise_above before (r ∷ rs) zero zero d a le h = (omega (arith, ints), omega (arith, ints))
-rise_above before (r ∷ rs) zero (suc j) d a le h = let p = above_run r.1 rs j d a.2 (omega arith) in (omega (arith, ints, a.1, p.0), omega (arith, ints, p.0, p.1))
-rise_above before (r ∷ rs) (suc i) zero d a le h = absurd (omega arith)
-rise_above before (r ∷ rs) (suc i) (suc j) d a le h = rise_above r.1 rs i j d a.2 (omega arith) (omega arith)
-
--- the runs of a set are above some number
-below_first : (runs : List (ℤ × ℤ)) → AreRuns runs → (before : ℤ) × AreAbove before runs
-below_first [] a = (pos 0, tt)
-below_first (r ∷ rs) a = (r.0 +ℤ negsuc 1, (omega (arith, ints), a.0, a.1))
-
 rises : (runs : List (ℤ × ℤ)) (i j : ℕ) → AreRuns runs → i ≤ j → j < length runs → ((run_at runs i).0 ≤ℤ (run_at runs j).0) × ((run_at runs i).1 ≤ℤ (run_at runs j).1)
-rises runs i j a le h = let above = below_first runs a in rise_above above.0 runs i j (pos 0, pos 0) above.1 le h
+rises runs i j a le h = both_rise runs i j (pos 0, pos 0) a le h
 
 -- a number is in one of the first gaps, in the set, or above the first runs
 located : (set : List (ℤ × ℤ)) (v : ℤ) (n : ℕ) → n ≤ length set → ((k : ℕ) × (k < n) × IsPast set k v × IsBefore set k v) ⊎ (IsIn set v ⊎ IsPast set n v)
@@ -74,8 +56,8 @@ module _ (box : List (List ℤ)) (x : Term) where
 
   pub none_first : (low first : ℤ) → IsBox box → TermIn (length box) x → first ≡ int_max low (term_low box x) → HasNoneBefore box x low first
   unfolding HasNoneBefore
-  none_first low first sound inside e v from less has =
-      let ends = has_between box x v sound inside has in
+  none_first low first well_formed inside e v from less has =
+      let ends = has_between box x v well_formed inside has in
       omega (arith, ints, clamps, ends.0)
 
   pub none_more : (low v : ℤ) → HasNoneBefore box x low v → (TermHas box x v → ⊥) → HasNoneBefore box x low (v +ℤ pos 1)
@@ -87,8 +69,8 @@ module _ (box : List (List ℤ)) (x : Term) where
 
   pub none_within : (low high v end : ℤ) → IsBox box → TermIn (length box) x → end ≡ (int_min high (term_high box x) +ℤ pos 1) → end ≤ℤ v → HasNoneBefore box x low v → HasWithin box x low high → ⊥
   unfolding HasNoneBefore HasWithin
-  none_within low high v end sound inside e past before (w, from, to, has) =
-      let ends = has_between box x w sound inside has in
+  none_within low high v end well_formed inside e past before (w, from, to, has) =
+      let ends = has_between box x w well_formed inside has in
       before w from (omega (arith, ints, clamps, ends.1)) has
 
   -- ---- gaps
@@ -98,13 +80,13 @@ module _ (box : List (List ℤ)) (x : Term) where
       ((λ (v, from, to, has). (v, has, (past v has).1 from, (before v has).1 to)), (λ (v, has, above, below). (v, (past v has).0 above, (before v has).0 below, has)))
 
   pub first_gap : (set : List (ℤ × ℤ)) (k : ℕ) (low : ℤ) → IsBox box → TermIn (length box) x → low ≡ term_low box x → k ≡ 0 → (v : ℤ) → TermHas box x v → (IsPast set k v ↔ (low ≤ℤ v))
-  first_gap set k low sound inside e first v has =
-      let ends = has_between box x v sound inside has in
+  first_gap set k low well_formed inside e first v has =
+      let ends = has_between box x v well_formed inside has in
       ((λ past. omega (arith, ints, ends.0, e)), (λ from less. absurd (omega arith)))
 
   pub last_gap : (set : List (ℤ × ℤ)) (k : ℕ) (high : ℤ) → IsBox box → TermIn (length box) x → high ≡ term_high box x → k ≡ length set → (v : ℤ) → TermHas box x v → (IsBefore set k v ↔ (v ≤ℤ high))
-  last_gap set k high sound inside e last v has =
-      let ends = has_between box x v sound inside has in
+  last_gap set k high well_formed inside e last v has =
+      let ends = has_between box x v well_formed inside has in
       ((λ before. omega (arith, ints, ends.1, e)), (λ to less. absurd (omega arith)))
 
   pub gaps_none : (set : List (ℤ × ℤ)) → GapsAreFree box x set 0

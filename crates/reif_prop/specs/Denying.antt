@@ -1,5 +1,5 @@
 -- What each step for a base that has to fail reaches.
-use Rattle.std.specs.Prelude.{◌≡◌, ◌≢◌, ℕ, ◌<◌, ◌⊎◌, List, slice_index_or, Bool, not, ℤ, ◌≤ℤ◌, ◌<ℤ◌, All}
+use Rattle.std.specs.Prelude.{◌≡◌, ℕ, ◌<◌, ◌⊎◌, List, slice_index_or, Bool, not, ℤ, ◌≤ℤ◌, ◌<ℤ◌, All}
 use Rattle.fzn_model.specs.declared.term.Term.{Term}
 use Rattle.fzn_model.specs.declared.base.Base.{Base}
 use Rattle.fzn_model.specs.Sets.{IsWithin}
@@ -8,40 +8,18 @@ use Rattle.fzn_model.specs.Bounds.{term_low, term_high, IsAt, IsWide, IsLookedAt
 use Rattle.dom_store.specs.Strength.{DeniedIsOwed}
 
 -- ---- literals
--- a term has the value, or all do
-unfoldable pub Has : Term → ℤ → List ℤ → Type 0
-Has t v θ = val t θ ≡ v
-
+-- all terms have the value
 unfoldable pub AllHave : List Term → ℤ → List ℤ → Type 0
 AllHave ts v θ = All (λ t. val t θ ≡ v) ts
 
--- it has the value alone, or the first terms do
-unfoldable pub ValueIs : Term → ℤ → List (List ℤ) → Type 0
-ValueIs t v box = IsAt box t v
-
+-- the first terms have it alone
 unfoldable pub FirstAre : List Term → ℤ → ℕ → List (List ℤ) → Type 0
 FirstAre ts v n box = (k : ℕ) (d : Term) → k < n → IsAt box (slice_index_or ts k d) v
 
 -- ---- a member
--- the value of the term is at least a number, at most one, not this one, or not in the run
-unfoldable pub IsFrom : Term → ℤ → List ℤ → Type 0
-IsFrom x low θ = low ≤ℤ val x θ
-
-unfoldable pub IsTo : Term → ℤ → List ℤ → Type 0
-IsTo x high θ = val x θ ≤ℤ high
-
-unfoldable pub Differs : Term → ℤ → List ℤ → Type 0
-Differs x v θ = val x θ ≢ v
-
+-- the value of the term is not in the run
 unfoldable pub Misses : Term → ℤ × ℤ → List ℤ → Type 0
 Misses x run θ = IsWithin run (val x θ) → ⊥
-
--- its values are at least a number, or at most one
-unfoldable pub LowIs : Term → ℤ → List (List ℤ) → Type 0
-LowIs x low box = low ≤ℤ term_low box x
-
-unfoldable pub HighIs : Term → ℤ → List (List ℤ) → Type 0
-HighIs x high box = term_high box x ≤ℤ high
 
 -- its least value is not in the run
 unfoldable pub LowIsOff : Term → ℤ × ℤ → List (List ℤ) → Type 0
@@ -51,10 +29,7 @@ LowIsOff x run box = IsWithin run (term_low box x) → ⊥
 unfoldable pub HighIsOff : Term → ℤ × ℤ → List (List ℤ) → Type 0
 HighIsOff x run box = IsWithin run (term_high box x) → ⊥
 
--- this number is not looked at, or none from a low to below a high is
-unfoldable pub IsOff : Term → ℤ → List (List ℤ) → Type 0
-IsOff x v box = IsLookedAt box x v → ⊥
-
+-- no number from a low to below a high is looked at
 unfoldable pub AreOff : Term → ℤ → ℤ → List (List ℤ) → Type 0
 AreOff x low end box = (v : ℤ) → low ≤ℤ v → v <ℤ end → IsLookedAt box x v → ⊥
 

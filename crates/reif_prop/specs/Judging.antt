@@ -3,7 +3,7 @@ use Rattle.std.specs.Prelude.{List, Bool, not, ℤ, ⊤}
 use Rattle.fzn_model.specs.declared.term.Term.{Term}
 use Rattle.fzn_model.specs.declared.base.Base.{Base}
 use Rattle.fzn_model.specs.Meaning.{bit}
-use Rattle.fzn_model.specs.Bounds.{IsAt, part_low, part_high}
+use Rattle.fzn_model.specs.Bounds.{IsAt, scaled_low, scaled_high}
 use Rattle.dom_store.specs.Strength.{BaseIsShown, BaseIsRefuted}
 use Rattle.reif_prop.specs.declared.verdict.Verdict.{Verdict}
 use Rattle.reif_prop.specs.declared.verdict.Verdict.TheVariants as verdict
@@ -23,12 +23,12 @@ IsBy box r f verdict.Refuted = IsAt box r (bit (not f))
 IsBy box r f verdict.Unknown = ⊤
 
 -- the term has the value that the bounds show
-pub record IsSettled (b : Base) (r : Term) (f : Bool) (box : List (List ℤ)) : Type 0 where
+pub record IsTermFixed (b : Base) (r : Term) (f : Bool) (box : List (List ℤ)) : Type 0 where
   pub shown : Verdict
   pub judged : IsJudged box b shown
   pub by : IsBy box r f shown
 
 -- the least or the greatest of a coefficient times a term
 abbrev pub bound_of : End → List (List ℤ) → ℤ × Term → ℤ
-bound_of end.Low box = part_low box
-bound_of end.High box = part_high box
+bound_of end.Low box = scaled_low box
+bound_of end.High box = scaled_high box

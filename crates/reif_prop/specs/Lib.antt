@@ -1,6 +1,6 @@
 pub mod Kinds
 pub mod Parts
-pub mod Steps
+pub mod Failing
 pub mod Values
 pub mod Judging
 pub mod Denying

@@ -6,7 +6,7 @@ use Rattle.fzn_model.specs.declared.clause.Clause.{Clause}
 use Rattle.fzn_model.specs.declared.member.Member.{Member}
 use Rattle.fzn_model.specs.declared.base.Base.{Base}
 use Rattle.fzn_model.specs.declared.base.Base.TheVariants as base
-use Rattle.fzn_model.specs.Kept.{BaseKept, of_call}
+use Rattle.fzn_model.specs.Limits.{BaseInLimits, of_call}
 use Rattle.fzn_model.specs.Boxes.{IsBox}
 use Rattle.fzn_model.specs.Booleans.{BaseBooleans}
 
@@ -21,6 +21,6 @@ relation rel ps r = base.Lin (record { rel = rel; terms = ps; r = r })
 
 -- a box with the variables of a base
 pub record IsOver (box : List (List ℤ)) (b : Base) : Type 0 where
-  pub sound : IsBox box
-  pub kept : BaseKept of_call (length box) b
+  pub well_formed : IsBox box
+  pub kept : BaseInLimits of_call (length box) b
   pub booleans : BaseBooleans box b

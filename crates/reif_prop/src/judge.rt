@@ -1,6 +1,7 @@
 //! What the bounds show of a base, and what is done where it has to fail.
 ghost use Rattle.reif_prop.specs.Parts.{IsOver};
-ghost use Rattle.reif_prop.specs.Steps.{Steps, Fails};
+ghost use Rattle.dom_store.specs.Steps.{Step};
+ghost use Rattle.reif_prop.specs.Failing.{Fails};
 ghost use Rattle.reif_prop.specs.Judging.{IsJudged};
 ghost use Rattle.reif_prop.specs.Denying.{IsDenied};
 
@@ -24,10 +25,10 @@ pub(crate) fn judge(store: &Store, base: &Base) -> Verdict
 }
 
 /// Narrows for a base that has to fail; a linear one is the work of another propagator.
-#[tactic(auto, using(crate::proofs::Stepping::linear_denied))]
+#[tactic(auto, using(crate::proofs::Bases::linear_denied))]
 pub(crate) fn deny(store: &mut Store, base: &Base) -> Passed
     requires { IsOver store.old.box base.now }
-    ensures { Steps (IsDenied base.now) (Fails base.now) store.old store.new result }
+    ensures { Step (IsDenied base.now) (Fails base.now) store.old store.new result }
 {
     match base {
         Base::Lin(_) => Passed::Done,

@@ -17,8 +17,8 @@
 //! What it stands on: dom_store for stores and terms, fzn_model for constraints.
 #![tactic(auto)]
 
-// What a step answers, and narrowings of one term.
-mod steps;
+// One term at one value.
+mod at;
 
 // What the bounds show of a base, and what is done where it has to fail: one file for each kind.
 mod clause;
@@ -32,7 +32,5 @@ mod verdict;
 mod judge;
 mod pass_reified;
 mod reif_prop;
-#[cfg(test)]
-mod tests;
 
 pub use reif_prop::ReifProp;

@@ -1,6 +1,7 @@
 //! The bounds of a sum.
 ghost use Rattle.std.specs.Prelude.{◌≡◌, ◌≤◌, ◌*◌, ◌*ℤ◌, length, unsigned_abs};
-ghost use Rattle.fzn_model.specs.Kept.{IsValue, TermIn, SumKept};
+ghost use Rattle.fzn_model.specs.Values.{largest};
+ghost use Rattle.fzn_model.specs.Limits.{IsValue, TermIn, SumInLimits};
 ghost use Rattle.fzn_model.specs.Bounds.{sum_of};
 ghost use Rattle.reif_prop.specs.Judging.{bound_of};
 
@@ -19,20 +20,20 @@ fn product(factor: &i64, value: i64) -> i128
     requires factor { IsValue factor.now }
     requires value { IsValue value }
     ensures value { result ≡ factor.now *ℤ value }
-    ensures small { unsigned_abs result ≤ 1000000 * 1000000 }
+    ensures small { unsigned_abs result ≤ largest * largest }
 {
     i128::from(*factor) * i128::from(value)
 }
 
 /// The least or the greatest of a coefficient times a term.
-fn bound(store: &Store, end: End, part: &(i64, Term)) -> i128
-    requires factor { IsValue part.now.0 }
-    requires term { TermIn (length store.now.box) part.now.1 }
-    ensures value { result ≡ bound_of end store.now.box part.now }
-    ensures small { unsigned_abs result ≤ 1000000 * 1000000 }
+fn bound(store: &Store, end: End, term: &(i64, Term)) -> i128
+    requires factor { IsValue term.now.0 }
+    requires inside { TermIn (length store.now.box) term.now.1 }
+    ensures value { result ≡ bound_of end store.now.box term.now }
+    ensures small { unsigned_abs result ≤ largest * largest }
 {
-    let first = product(&part.0, least(store, part.1));
-    let second = product(&part.0, greatest(store, part.1));
+    let first = product(&term.0, least(store, term.1));
+    let second = product(&term.0, greatest(store, term.1));
     match end {
         End::Low => first.min(second),
         End::High => first.max(second),
@@ -40,14 +41,14 @@ fn bound(store: &Store, end: End, part: &(i64, Term)) -> i128
 }
 
 /// The least or the greatest of a sum, term by term.
-pub(crate) fn bound_sum(store: &Store, end: End, parts: &[(i64, Term)]) -> i128
-    requires { SumKept (length store.now.box) parts.now }
-    ensures value { result ≡ sum_of (bound_of end store.now.box) parts.now }
-    ensures small { unsigned_abs result ≤ 1000000 * 1000000 * length parts.now }
+pub(crate) fn bound_sum(store: &Store, end: End, terms: &[(i64, Term)]) -> i128
+    requires { SumInLimits (length store.now.box) terms.now }
+    ensures value { result ≡ sum_of (bound_of end store.now.box) terms.now }
+    ensures small { unsigned_abs result ≤ largest * largest * length terms.now }
 {
     let mut sum: i128 = 0;
-    for part in parts {
-        sum += bound(store, end, part);
+    for term in terms {
+        sum += bound(store, end, term);
     }
     sum
 }

@@ -3,7 +3,7 @@ ghost use Rattle.std.specs.Prelude.{◌≡◌, ◌↔◌, ◌+◌, ◌≤◌, �
 ghost use Rattle.std.specs.Int.{int_min, int_max};
 ghost use Rattle.fzn_model.specs.Sets.{AreRuns};
 ghost use Rattle.fzn_model.specs.Boxes.{IsBox};
-ghost use Rattle.fzn_model.specs.Kept.{IsValue, TermIn};
+ghost use Rattle.fzn_model.specs.Limits.{IsValue, TermIn};
 ghost use Rattle.fzn_model.specs.Bounds.{term_low, term_high, TermHas};
 ghost use Rattle.reif_prop.specs.Values.{HasWithin, IsFreeOf, HasInGap, IsPast, IsBefore, AllInside, AllOutside};
 
@@ -14,7 +14,7 @@ use fzn_model::Term;
 pub(crate) fn first_from(store: &Store, x: Term, low: &i64) -> i64
     requires term { TermIn (length store.now.box) x }
     ensures value { result ≡ int_max low.now (term_low store.now.box x) }
-    ensures sound { IsBox store.now.box }
+    ensures well_formed { IsBox store.now.box }
 {
     (*low).max(least(store, x))
 }
@@ -23,7 +23,7 @@ pub(crate) fn first_from(store: &Store, x: Term, low: &i64) -> i64
 pub(crate) fn end_by(store: &Store, x: Term, high: &i64) -> i64
     requires term { TermIn (length store.now.box) x }
     ensures value { result ≡ (int_min high.now (term_high store.now.box x) +ℤ pos 1) }
-    ensures sound { IsBox store.now.box }
+    ensures well_formed { IsBox store.now.box }
 {
     (*high).min(greatest(store, x)) + 1
 }

@@ -5,18 +5,18 @@ use Rattle.std.proofs.lemmas.Int.{ints}
 use Rattle.std.proofs.lemmas.List.Elements.{All-cons, All-nil}
 use Rattle.fzn_model.specs.declared.term.Term.{Term}
 use Rattle.fzn_model.specs.declared.term.Term.TheVariants as term
-use Rattle.fzn_model.specs.Kept.{IsValue, TermIn}
+use Rattle.fzn_model.specs.Limits.{IsValue, TermIn}
 use Rattle.fzn_model.specs.Boxes.{IsBox, IsDomain, domain_at, low_value, high_value}
 use Rattle.fzn_model.specs.Bounds.{term_low, term_high}
-use Rattle.fzn_model.specs.Terms.{has_value, has_low, has_high}
+use Rattle.fzn_model.proofs.Terms.{has_value, has_low, has_high}
 use Rattle.rest_basic.specs.Forms.{term_values}
 
 -- the bounds of a variable are values
 pub low_is_value : (box : List (List ℤ)) (k : ℕ) → IsBox box → k < length box → IsValue (low_value (domain_at box k))
-low_is_value box k sound inside = has_value box (term.Var k) _ sound inside (has_low box (term.Var k) sound inside)
+low_is_value box k well_formed inside = has_value box (term.Var k) _ well_formed inside (has_low box (term.Var k) well_formed inside)
 
 pub high_is_value : (box : List (List ℤ)) (k : ℕ) → IsBox box → k < length box → IsValue (high_value (domain_at box k))
-high_is_value box k sound inside = has_value box (term.Var k) _ sound inside (has_high box (term.Var k) sound inside)
+high_is_value box k well_formed inside = has_value box (term.Var k) _ well_formed inside (has_high box (term.Var k) well_formed inside)
 
 -- the values of a term are a domain
 not_empty : (z : ℤ) → (z ∷ []) ≡ [] → ⊥
@@ -33,11 +33,11 @@ alone z value = record {
 
 pub domain_of : (box : List (List ℤ)) (t : Term) → IsBox box → TermIn (length box) t → IsDomain (term_values box t)
 unfolding term_values
-domain_of box (term.Const z) sound inside = alone z inside
-domain_of box (term.Var k) sound inside = sound k [] inside
+domain_of box (term.Const z) well_formed inside = alone z inside
+domain_of box (term.Var k) well_formed inside = well_formed k [] inside
 
 pub variable_domain : (box : List (List ℤ)) (k : ℕ) → IsBox box → k < length box → IsDomain (domain_at box k)
-variable_domain box k sound inside = sound k [] inside
+variable_domain box k well_formed inside = well_formed k [] inside
 
 pub low_is_first : (box : List (List ℤ)) (t : Term) → low_value (term_values box t) ≡ term_low box t
 unfolding term_values low_value

@@ -1,4 +1,4 @@
--- The form that a constraint has in a box: fixed variables are their values, and what the bounds settle is left out. It is
+-- The form that a constraint has in a box: fixed variables are their values, and what the bounds decide is left out. It is
 -- this project's own.
 use Rattle.std.specs.Prelude.{Bool, true, false, not, ◌&&◌, ◌||◌, if◌then◌else◌, List, [], ◌∷◌, filter, ℤ, pos, ◌-ℤ◌, ◌*ℤ◌, int_lt, int_le, int_div, int_rem, unsigned_abs}
 use Rattle.std.specs.Ordering.{int_eq}
@@ -22,9 +22,9 @@ use Rattle.rest_basic.specs.declared.reduced.BaseForm.{BaseForm}
 use Rattle.rest_basic.specs.declared.reduced.BaseForm.TheVariants as form
 
 -- ---- terms
--- a fixed variable is its value
-unfoldable pub settled : List (List ℤ) → Term → Term
-settled box t = if is_open box t then t else term.Const (term_low box t)
+-- the term, or its value where it has one alone
+unfoldable pub substituted : List (List ℤ) → Term → Term
+substituted box t = if is_open box t then t else term.Const (term_low box t)
 
 unfoldable pub open_terms : List (List ℤ) → List Term → List Term
 open_terms box ts = filter (is_open box) ts
@@ -49,26 +49,27 @@ abbrev pub empty_clause : Con
 empty_clause = con.Base (base.Clause (record { pos = []; neg = [] }))
 
 -- ---- linear relations
--- the parts of a sum whose variable is open
-abbrev pub is_open_part : List (List ℤ) → ℤ × Term → Bool
-is_open_part box p = is_open box p.1
+-- the terms of a sum, each a coefficient beside its term, that are open
+abbrev pub is_open_linear_term : List (List ℤ) → ℤ × Term → Bool
+is_open_linear_term box p = is_open box p.1
 
-unfoldable pub open_parts : List (List ℤ) → List (ℤ × Term) → List (ℤ × Term)
-open_parts box ps = filter (is_open_part box) ps
+unfoldable pub open_linear_terms : List (List ℤ) → List (ℤ × Term) → List (ℤ × Term)
+open_linear_terms box ps = filter (is_open_linear_term box) ps
 
 unfoldable pub some_open : List (List ℤ) → List (ℤ × Term) → Bool
-some_open box ps = list_any (is_open_part box) ps
+some_open box ps = list_any (is_open_linear_term box) ps
 
--- the sum of the others
-abbrev pub fixed_part : List (List ℤ) → ℤ × Term → ℤ
-fixed_part box p = if is_open box p.1 then pos 0 else (p.0 *ℤ term_low box p.1)
+-- coefficient times value of a term that is fixed; 0 of an open one
+abbrev pub fixed_product : List (List ℤ) → ℤ × Term → ℤ
+fixed_product box p = if is_open box p.1 then pos 0 else (p.0 *ℤ term_low box p.1)
 
+-- the sum of the fixed terms
 unfoldable pub fixed_sum : List (List ℤ) → List (ℤ × Term) → ℤ
-fixed_sum box ps = sum_of (fixed_part box) ps
+fixed_sum box ps = sum_of (fixed_product box) ps
 
--- the open parts, against the number less the sum of the others
+-- the open terms, against the number less the sum of the fixed ones
 unfoldable pub left_of : List (List ℤ) → Rel → List (ℤ × Term) → ℤ → BaseForm
-left_of box rel ps r = form.Is (base.Lin (record { rel = rel; terms = open_parts box ps; r = r -ℤ fixed_sum box ps }))
+left_of box rel ps r = form.Is (base.Lin (record { rel = rel; terms = open_linear_terms box ps; r = r -ℤ fixed_sum box ps }))
 
 -- the number lies outside the least and the greatest of the sum
 abbrev pub is_outside : List (List ℤ) → List (ℤ × Term) → ℤ → Bool
@@ -134,32 +135,33 @@ of_form form.Holds = reduced.Holds
 of_form form.Fails = reduced.Is empty_clause
 of_form (form.Is b) = reduced.Is (con.Base b)
 
--- a base that has to fail, r being the number that says so
-abbrev pub denied_base : Base → Term → Bool → Con
-denied_base (base.Lin l) r f = con.Base (base.Lin (opposite l))
-denied_base (base.Clause c) r f = con.Reif (base.Clause c) r f
-denied_base (base.Member m) r f = con.Reif (base.Member m) r f
+-- the negation of a base: the opposite relation, or the base reified by a constant r that is not the value of the flag
+abbrev pub negated_base : Base → Term → Bool → Con
+negated_base (base.Lin l) r f = con.Base (base.Lin (opposite l))
+negated_base (base.Clause c) r f = con.Reif (base.Clause c) r f
+negated_base (base.Member m) r f = con.Reif (base.Member m) r f
 
-abbrev pub denied : BaseForm → Term → Bool → Reduced
-denied form.Holds r f = reduced.Is empty_clause
-denied form.Fails r f = reduced.Holds
-denied (form.Is b) r f = reduced.Is (denied_base b r f)
+-- what is left of a base that has to fail
+abbrev pub negated_form : BaseForm → Term → Bool → Reduced
+negated_form form.Holds r f = reduced.Is empty_clause
+negated_form form.Fails r f = reduced.Holds
+negated_form (form.Is b) r f = reduced.Is (negated_base b r f)
 
 -- the term has the value of the flag
 abbrev pub truth_is : Term → Bool → Reduced
 truth_is r f = reduced.Is (con.Base (base.Lin (record { rel = rel.Eq; terms = (pos 1, r) ∷ []; r = bit f })))
 
--- where the term is open
-abbrev pub told : BaseForm → Term → Bool → Reduced
-told form.Holds r f = truth_is r f
-told form.Fails r f = truth_is r (not f)
-told (form.Is b) r f = reduced.Is (con.Reif b r f)
+-- what is left of a reified base whose truth term r is open
+abbrev pub open_reif_form : BaseForm → Term → Bool → Reduced
+open_reif_form form.Holds r f = truth_is r f
+open_reif_form form.Fails r f = truth_is r (not f)
+open_reif_form (form.Is b) r f = reduced.Is (con.Reif b r f)
 
 unfoldable pub reif_form : List (List ℤ) → Base → Term → Bool → Reduced
 reif_form box b r f =
-    if is_open box r then told (form_of box b) r f else
+    if is_open box r then open_reif_form (form_of box b) r f else
     if int_eq (term_low box r) (bit f) then of_form (form_of box b) else
-    denied (form_of box b) (term.Const (term_low box r)) f
+    negated_form (form_of box b) (term.Const (term_low box r)) f
 
 -- ---- arithmetic
 abbrev pub of_truth : Bool → Reduced
@@ -180,16 +182,16 @@ mod_is a b c = not (int_eq b (pos 0)) && int_eq c (int_rem a b)
 
 unfoldable pub arith_form : List (List ℤ) → Con → Reduced
 arith_form box (con.Times a b c) =
-    if any_open box (a ∷ b ∷ c ∷ []) then reduced.Is (con.Times (settled box a) (settled box b) (settled box c)) else
+    if any_open box (a ∷ b ∷ c ∷ []) then reduced.Is (con.Times (substituted box a) (substituted box b) (substituted box c)) else
     of_truth (times_is (term_low box a) (term_low box b) (term_low box c))
 arith_form box (con.Abs a b) =
-    if any_open box (a ∷ b ∷ []) then reduced.Is (con.Abs (settled box a) (settled box b)) else
+    if any_open box (a ∷ b ∷ []) then reduced.Is (con.Abs (substituted box a) (substituted box b)) else
     of_truth (abs_is (term_low box a) (term_low box b))
 arith_form box (con.Div a b c) =
-    if any_open box (a ∷ b ∷ c ∷ []) then reduced.Is (con.Div (settled box a) (settled box b) (settled box c)) else
+    if any_open box (a ∷ b ∷ c ∷ []) then reduced.Is (con.Div (substituted box a) (substituted box b) (substituted box c)) else
     of_truth (div_is (term_low box a) (term_low box b) (term_low box c))
 arith_form box (con.Mod a b c) =
-    if any_open box (a ∷ b ∷ c ∷ []) then reduced.Is (con.Mod (settled box a) (settled box b) (settled box c)) else
+    if any_open box (a ∷ b ∷ c ∷ []) then reduced.Is (con.Mod (substituted box a) (substituted box b) (substituted box c)) else
     of_truth (mod_is (term_low box a) (term_low box b) (term_low box c))
 arith_form box c = reduced.Is c
 

@@ -1,4 +1,4 @@
 pub mod Forms
-pub mod Says
-pub mod Turning
+pub mod Equivalence
+pub mod Negating
 pub mod Gathered

@@ -2,35 +2,14 @@
 
 ghost use Rattle.std.specs.Prelude.{◌≡◌, ◌*ℤ◌, ◌∷◌, [], pos, int_div, length};
 ghost use Rattle.fzn_model.specs.declared.con.Con.TheVariants as con;
-ghost use Rattle.fzn_model.specs.Kept.{TermIn};
+ghost use Rattle.fzn_model.specs.Limits.{TermIn};
 ghost use Rattle.rest_basic.specs.Forms.{any_open, times_is, abs_is, div_is, mod_is, arith_form};
 
 use crate::base::of_truth;
 use crate::reduced::Reduced;
-use crate::view::{is_open_in, low_of, settled_in};
+use crate::view::{any_open_in, low_of, substituted_in};
 use fzn_model::{BoxView, Con, Term};
 use std::alloc::Global;
-
-/// Whether one of two terms has several values.
-#[tactic(auto, unfolding(crate::specs::Forms::any_open))]
-fn two_open<V: BoxView>(a: Term, b: Term, view: &V) -> bool
-    requires a { TermIn (length (V.shape view.now)) a }
-    requires b { TermIn (length (V.shape view.now)) b }
-    ensures { result ≡ any_open (V.shape view.now) (a ∷ b ∷ []) }
-{
-    is_open_in(a, view) || is_open_in(b, view)
-}
-
-/// Whether one of three terms has several values.
-#[tactic(auto, unfolding(crate::specs::Forms::any_open))]
-fn three_open<V: BoxView>(a: Term, b: Term, c: Term, view: &V) -> bool
-    requires a { TermIn (length (V.shape view.now)) a }
-    requires b { TermIn (length (V.shape view.now)) b }
-    requires c { TermIn (length (V.shape view.now)) c }
-    ensures { result ≡ any_open (V.shape view.now) (a ∷ b ∷ c ∷ []) }
-{
-    is_open_in(a, view) || is_open_in(b, view) || is_open_in(c, view)
-}
 
 /// The product.
 fn product(a: i64, b: i64) -> i128
@@ -89,11 +68,11 @@ pub(crate) fn form_of_times<V: BoxView>(
     requires c { TermIn (length (V.shape view.now)) c }
     ensures { result ≡ arith_form (V.shape view.now) (con.Times a b c) }
 {
-    if three_open(a, b, c, view) {
+    if any_open_in(&[a, b, c], view) {
         return Reduced::Is(Con::Times(
-            settled_in(a, view),
-            settled_in(b, view),
-            settled_in(c, view),
+            substituted_in(a, view),
+            substituted_in(b, view),
+            substituted_in(c, view),
         ));
     }
     of_truth(
@@ -109,8 +88,8 @@ pub(crate) fn form_of_abs<V: BoxView>(alloc: Global, a: Term, b: Term, view: &V)
     requires b { TermIn (length (V.shape view.now)) b }
     ensures { result ≡ arith_form (V.shape view.now) (con.Abs a b) }
 {
-    if two_open(a, b, view) {
-        return Reduced::Is(Con::Abs(settled_in(a, view), settled_in(b, view)));
+    if any_open_in(&[a, b], view) {
+        return Reduced::Is(Con::Abs(substituted_in(a, view), substituted_in(b, view)));
     }
     of_truth(alloc, abs_is(low_of(a, view), low_of(b, view)))
 }
@@ -123,11 +102,11 @@ pub(crate) fn form_of_div<V: BoxView>(alloc: Global, a: Term, b: Term, c: Term, 
     requires c { TermIn (length (V.shape view.now)) c }
     ensures { result ≡ arith_form (V.shape view.now) (con.Div a b c) }
 {
-    if three_open(a, b, c, view) {
+    if any_open_in(&[a, b, c], view) {
         return Reduced::Is(Con::Div(
-            settled_in(a, view),
-            settled_in(b, view),
-            settled_in(c, view),
+            substituted_in(a, view),
+            substituted_in(b, view),
+            substituted_in(c, view),
         ));
     }
     of_truth(
@@ -144,11 +123,11 @@ pub(crate) fn form_of_mod<V: BoxView>(alloc: Global, a: Term, b: Term, c: Term, 
     requires c { TermIn (length (V.shape view.now)) c }
     ensures { result ≡ arith_form (V.shape view.now) (con.Mod a b c) }
 {
-    if three_open(a, b, c, view) {
+    if any_open_in(&[a, b, c], view) {
         return Reduced::Is(Con::Mod(
-            settled_in(a, view),
-            settled_in(b, view),
-            settled_in(c, view),
+            substituted_in(a, view),
+            substituted_in(b, view),
+            substituted_in(c, view),
         ));
     }
     of_truth(

@@ -1,9 +1,9 @@
 //! Bases.
 
 ghost use Rattle.std.specs.Prelude.{◌≡◌, IfOk, length};
-ghost use Rattle.fzn_model.specs.Kept.{BaseKept, SumKept, of_call};
+ghost use Rattle.fzn_model.specs.Limits.{BaseInLimits, SumInLimits, of_call};
 ghost use Rattle.rest_basic.specs.Forms.{empty_clause, form_of, form_of_lin, of_form, of_truth};
-ghost use Rattle.rest_basic.specs.Turning.{FormCanTurn};
+ghost use Rattle.rest_basic.specs.Negating.{FormIsNegatable};
 
 use crate::clause::form_of_clause;
 use crate::lin::form_of_lin;
@@ -39,9 +39,9 @@ pub(crate) fn form_of<V: BoxView>(
     base: &Base,
     view: &V,
 ) -> Result<BaseForm, AllocError>
-    requires { BaseKept of_call (length (V.shape view.now)) base.now }
+    requires { BaseInLimits of_call (length (V.shape view.now)) base.now }
     ensures form { IfOk result (λ f. f ≡ form_of (V.shape view.now) base.now) }
-    ensures turn { IfOk result FormCanTurn }
+    ensures turn { IfOk result FormIsNegatable }
 {
     match base {
         Base::Lin(lin) => form_of_lin(alloc, lin.rel, lin.terms.as_slice(), lin.r, view),
@@ -66,16 +66,17 @@ pub(crate) fn of_form(alloc: Global, form: BaseForm) -> Reduced
     }
 }
 
-/// What is left of a linear relation.
+/// What is left of a linear relation: that the sum of the terms, each with its coefficient, is at most, equal to or other
+/// than `r`. The one error is that memory runs out.
 pub fn reduce_lin<V: BoxView>(
     alloc: Global,
     rel: Rel,
-    parts: &[(i64, Term)],
+    terms: &[(i64, Term)],
     r: i128,
     view: &V,
 ) -> Result<Reduced, AllocError>
-    requires { SumKept (length (V.shape view.now)) parts.now }
-    ensures { IfOk result (λ left. left ≡ of_form (form_of_lin (V.shape view.now) rel parts.now r)) }
+    requires { SumInLimits (length (V.shape view.now)) terms.now }
+    ensures { IfOk result (λ left. left ≡ of_form (form_of_lin (V.shape view.now) rel terms.now r)) }
 {
-    Ok(of_form(alloc, form_of_lin(alloc, rel, parts, r, view)?))
+    Ok(of_form(alloc, form_of_lin(alloc, rel, terms, r, view)?))
 }

@@ -1,9 +1,9 @@
 //! Clauses.
 
 ghost use Rattle.std.specs.Prelude.{◌≡◌, IfOk, All, length};
-ghost use Rattle.fzn_model.specs.Kept.{TermIn, ClauseKept};
+ghost use Rattle.fzn_model.specs.Limits.{TermIn, ClauseInLimits};
 ghost use Rattle.rest_basic.specs.Forms.{is_at, any_at, form_of_clause};
-ghost use Rattle.rest_basic.specs.Turning.{FormCanTurn};
+ghost use Rattle.rest_basic.specs.Negating.{FormIsNegatable};
 
 use crate::reduced::BaseForm;
 use crate::view::{any_open_in, high_of, low_of, open_terms_in};
@@ -39,7 +39,7 @@ pub(crate) fn form_of_clause<V: BoxView>(
     requires pos { All (TermIn (length (V.shape view.now))) pos.now }
     requires neg { All (TermIn (length (V.shape view.now))) neg.now }
     ensures form { IfOk result (λ f. f ≡ form_of_clause (V.shape view.now) pos.now neg.now) }
-    ensures turn { IfOk result FormCanTurn }
+    ensures turn { IfOk result FormIsNegatable }
 {
     if any_at(pos, 1, view) || any_at(neg, 0, view) {
         return Ok(BaseForm::Holds);

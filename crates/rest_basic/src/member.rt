@@ -3,9 +3,9 @@
 ghost use Rattle.std.specs.Prelude.{◌≡◌, ◌↔◌, IfOk, IsTrue, length};
 ghost use Rattle.fzn_model.specs.Boxes.{IsDomain};
 ghost use Rattle.fzn_model.specs.Grouping.{runs_of};
-ghost use Rattle.fzn_model.specs.Kept.{TermIn};
+ghost use Rattle.fzn_model.specs.Limits.{TermIn};
 ghost use Rattle.rest_basic.specs.Forms.{term_values, set_left, form_of_member};
-ghost use Rattle.rest_basic.specs.Turning.{FormCanTurn};
+ghost use Rattle.rest_basic.specs.Negating.{FormIsNegatable};
 
 use crate::reduced::BaseForm;
 use crate::runs::{runs_of_values, set_left};
@@ -27,15 +27,15 @@ fn same_set(set: &Runs, other: &Runs) -> bool
     are_same(set.runs.as_slice(), other.runs.as_slice())
 }
 
-/// The form of a member of a set, told what is left of the set and the values of the term.
-#[tactic(auto, using(crate::proofs::Lefts::form_holds, crate::proofs::Lefts::form_fails, crate::proofs::Lefts::form_left))]
+/// The form of a member of a set, by what is left of the set and the values of the term.
+#[tactic(auto, using(crate::proofs::MemberForm::form_holds, crate::proofs::MemberForm::form_fails, crate::proofs::MemberForm::form_left))]
 fn form_by<V: BoxView>(x: Term, set: &Runs, left: Runs, values: &Runs, view: &V) -> BaseForm
     requires term { TermIn (length (V.shape view.now)) x }
     requires left { left ≡ set_left (V.shape view.now) set.now x }
     requires values { values.now ≡ runs_of (term_values (V.shape view.now) x) }
-    requires sound { IsDomain (term_values (V.shape view.now) x) }
+    requires well_formed { IsDomain (term_values (V.shape view.now) x) }
     ensures form { result ≡ form_of_member (V.shape view.now) x set.now }
-    ensures turn { FormCanTurn result }
+    ensures turn { FormIsNegatable result }
 {
     if same_set(&left, values) {
         return BaseForm::Holds;
@@ -55,7 +55,7 @@ pub(crate) fn form_of_member<V: BoxView>(
 ) -> Result<BaseForm, AllocError>
     requires { TermIn (length (V.shape view.now)) x }
     ensures form { IfOk result (λ f. f ≡ form_of_member (V.shape view.now) x set.now) }
-    ensures turn { IfOk result FormCanTurn }
+    ensures turn { IfOk result FormIsNegatable }
 {
     let _low = low_of(x, view);
     let left = set_left(alloc, x, set, view)?;

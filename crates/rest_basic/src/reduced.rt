@@ -9,7 +9,7 @@ pub enum Reduced {
     Is(Con),
 }
 
-/// What is left of a base.
+/// What is left of a base: it holds on every assignment of the box, on none, or exactly where another base does.
 #[derive(Debug, Drop)]
 pub(crate) enum BaseForm {
     Holds,

@@ -2,7 +2,7 @@
 
 ghost use Rattle.std.specs.Prelude.{◌≡◌, ◌↔◌, ◌≤ℤ◌, ◌<ℤ◌, ◌+ℤ◌, ◌-ℤ◌, pos, ◌∷◌, ◌++◌, [], IfOk, OnOk, IsTrue, Contains, length};
 ghost use Rattle.fzn_model.specs.Sets.{IsIn};
-ghost use Rattle.fzn_model.specs.Kept.{IsValue, TermIn};
+ghost use Rattle.fzn_model.specs.Limits.{IsValue, TermIn};
 ghost use Rattle.fzn_model.specs.Boxes.{IsDomain};
 ghost use Rattle.fzn_model.specs.Bounds.{term_low, term_high};
 ghost use Rattle.fzn_model.specs.Grouping.{runs_of};
@@ -46,7 +46,7 @@ fn push(runs: &mut Vec<(i64, i64)>, run: (i64, i64)) -> Result<(), AllocError>
 }
 
 /// Adds a number that is greater than all of the set.
-#[tactic(auto, using(crate::proofs::Gathering::add_first, crate::proofs::Gathering::add_touching, crate::proofs::Gathering::add_apart))]
+#[tactic(auto, using(crate::proofs::GatheredRuns::add_first, crate::proofs::GatheredRuns::add_touching, crate::proofs::GatheredRuns::add_apart))]
 fn add_greatest(runs: &mut Vec<(i64, i64)>, number: &i64) -> Result<(), AllocError>
     requires { AreBelow number.now runs.old.items }
     ensures { OnOk result (IsAdded number.now runs.old.items runs.new.items) }
@@ -75,7 +75,7 @@ fn is_left<V: BoxView>(x: Term, set: &Runs, number: &i64, view: &V) -> bool
 }
 
 /// Adds the next number where the term can have it and the set has it.
-#[tactic(auto, using(crate::proofs::Gathering::are_below, crate::proofs::Gathering::added, crate::proofs::Gathering::passed))]
+#[tactic(auto, using(crate::proofs::GatheredRuns::are_below, crate::proofs::GatheredRuns::added, crate::proofs::GatheredRuns::passed))]
 fn gather_next<V: BoxView>(
     runs: &mut Vec<(i64, i64)>,
     x: Term,
@@ -103,7 +103,7 @@ fn gather<V: BoxView>(
     view: &V,
 ) -> Result<Runs, AllocError>
     requires term { TermIn (length (V.shape view.now)) x }
-    requires sound { IsDomain (term_values (V.shape view.now) x) }
+    requires well_formed { IsDomain (term_values (V.shape view.now) x) }
     requires low { low ≡ term_low (V.shape view.now) x }
     requires end { term_high (V.shape view.now) x <ℤ end }
     ensures { IfOk result (λ left. left ≡ set_left (V.shape view.now) set.now x) }
@@ -150,7 +150,7 @@ fn clipped(
 }
 
 /// The least and the greatest value of a term.
-#[tactic(auto, using(crate::proofs::Gathering::domain_order))]
+#[tactic(auto, using(crate::proofs::GatheredRuns::domain_order))]
 fn bounds_of<V: BoxView>(x: Term, view: &V) -> (i64, i64)
     requires { TermIn (length (V.shape view.now)) x }
     ensures low { result.0 ≡ term_low (V.shape view.now) x }
@@ -158,7 +158,7 @@ fn bounds_of<V: BoxView>(x: Term, view: &V) -> (i64, i64)
     ensures order { result.0 ≤ℤ result.1 }
     ensures small_low { IsValue result.0 }
     ensures small_high { IsValue result.1 }
-    ensures sound { IsDomain (term_values (V.shape view.now) x) }
+    ensures well_formed { IsDomain (term_values (V.shape view.now) x) }
 {
     (low_of(x, view), high_of(x, view))
 }
@@ -173,7 +173,7 @@ fn is_wide(bounds: &(i64, i64)) -> bool
 }
 
 /// The numbers of a set that a term can have, where its values have no gap.
-#[tactic(auto, using(crate::proofs::Gathering::clipped_runs, crate::proofs::Gathering::clipped_left))]
+#[tactic(auto, using(crate::proofs::GatheredRuns::clipped_runs, crate::proofs::GatheredRuns::clipped_left))]
 fn set_between<V: BoxView>(
     alloc: Global,
     x: Term,
@@ -181,7 +181,7 @@ fn set_between<V: BoxView>(
     bounds: &(i64, i64),
     view: &V,
 ) -> Result<Runs, AllocError>
-    requires sound { IsDomain (term_values (V.shape view.now) x) }
+    requires well_formed { IsDomain (term_values (V.shape view.now) x) }
     requires low { bounds.now.0 ≡ term_low (V.shape view.now) x }
     requires high { bounds.now.1 ≡ term_high (V.shape view.now) x }
     requires wide { pos 1024 ≤ℤ (bounds.now.1 -ℤ bounds.now.0) }
@@ -219,8 +219,8 @@ fn one_run(alloc: Global, run: (i64, i64)) -> Result<Runs, AllocError>
     Ok(Runs { runs })
 }
 
-/// The values of a term.
-#[tactic(auto, using(crate::proofs::Gathering::whole_left))]
+/// The values of a term in the box, as runs. The one error is that memory runs out.
+#[tactic(auto, using(crate::proofs::GatheredRuns::whole_left))]
 pub fn runs_of_values<V: BoxView>(alloc: Global, x: Term, view: &V) -> Result<Runs, AllocError>
     requires { TermIn (length (V.shape view.now)) x }
     ensures { IfOk result (λ values. values ≡ runs_of (term_values (V.shape view.now) x)) }

@@ -1,7 +1,6 @@
 -- The rest of a box keeps the limits of a residual problem.
-use Rattle.std.proofs.Common.{◌≡◌, ℕ, zero, suc, ◌*◌, ◌<◌, ◌≤◌, Bool, true, false, List, [], ◌∷◌, length, get_or, map, refl, ap, sym, subst, ◌∙◌, arith, ℤ, pos, negsuc, ◌+ℤ◌, ◌-ℤ◌, ◌≤ℤ◌, ◌<ℤ◌}
+use Rattle.std.proofs.Common.{◌≡◌, ℕ, zero, suc, ◌*◌, ◌<◌, ◌≤◌, Bool, true, false, List, [], ◌∷◌, length, get_or, map, refl, ap, sym, subst, ◌∙◌, arith, ℤ, pos, negsuc, ◌-ℤ◌, ◌≤ℤ◌, ◌<ℤ◌}
 use Rattle.std.specs.Prelude.{All, AllPairs, if◌then◌else◌, int_lt, slice_index_or}
-use Rattle.std.specs.Ordering.{int_eq}
 use Rattle.std.proofs.lemmas.Int.{ints}
 use Rattle.std.proofs.lemmas.List.{length-map, get_or-map}
 use Rattle.std.proofs.lemmas.List.Elements.{All-head, All-tail, All-cons, All-nil, All-map, All-weaker}
@@ -16,40 +15,28 @@ use Rattle.fzn_model.specs.declared.goal.Goal.{Goal}
 use Rattle.fzn_model.specs.declared.goal.Goal.TheVariants as goal
 use Rattle.fzn_model.specs.Sets.{IsWithin, IsIn, low_of, high_of}
 use Rattle.fzn_model.specs.Parts.{Parts}
-use Rattle.fzn_model.specs.Kept.{IsValue, IsBit, TermIn, TermsIn, ListKept, SumKept, TasksKept, RowsKept, BaseKept, ConKept, IsTruth, BaseTruths, ConTruths, DomainKept, GoalKept, IsModel, of_call}
+use Rattle.fzn_model.specs.Limits.{IsValue, IsBit, TermIn, TermsIn, ListInLimits, SumInLimits, TasksInLimits, RowsInLimits, BaseInLimits, ConInLimits, IsTruth, BaseTruths, ConTruths, DomainInLimits, GoalInLimits, IsModel, of_call}
 use Rattle.fzn_model.specs.Boxes.{IsDomain, IsBox, domain_at, low_value, high_value}
 use Rattle.fzn_model.specs.Bounds.{term_low, is_open}
 use Rattle.fzn_model.specs.Booleans.{IsBoolean, BaseBooleans, ConBooleans}
-use Rattle.fzn_model.specs.Terms.{has_value, has_low}
-use Rattle.fzn_model.specs.Ends.{between, low_in}
-use Rattle.fzn_model.specs.Grouping.{run_before, runs_of, same_runs, runs_are, runs_have}
-use Rattle.fzn_model.specs.Rests.{RestParts, CostKept, IsRest}
+use Rattle.fzn_model.proofs.Domains.{between, low_in}
+use Rattle.fzn_model.proofs.Grouping.{same_runs, runs_are, runs_have}
+use Rattle.fzn_model.specs.Grouping.{runs_of}
+use Rattle.fzn_model.specs.Rests.{RestParts, CostInLimits, IsRest}
 use Rattle.fzn_model.proofs.Tops as tops
-use Rattle.rest_basic.specs.Forms.{settled}
+use Rattle.rest_basic.specs.Forms.{substituted}
 use Rattle.rest_basic.specs.declared.reduced.Reduced.{Reduced}
 use Rattle.rest_basic.specs.declared.reduced.Reduced.TheVariants as reduced
-use Rattle.rest_global.specs.Renamed.{terms_by, parts_by, task_by, tasks_by, base_by, con_by}
+use Rattle.rest_basic.proofs.Substituting.{low_is, low_bit}
+use Rattle.rest_basic.proofs.Members.{ends_all}
+use Rattle.rest_global.specs.Renamed.{terms_by, linear_terms_by, task_by, tasks_by, base_by, con_by}
 use Rattle.rest_global.specs.Projection.{opens, place, numbered, rest_term, rest_variables, IsForm, IsFirst, AreLeft, open_part, cost_left, cost_offset, IsRestOfBox, LiesWithin}
 use Rattle.rest_global.specs.Making.{IsOver}
-use Rattle.rest_global.proofs.Placing.{opens_at, opens_from, opens_below}
-use Rattle.rest_global.proofs.Lefts.{form_suits}
-use Rattle.rest_global.proofs.Within.{model_over, model_goal}
+use Rattle.rest_global.proofs.Places.{opens_at, opens_from, opens_below}
+use Rattle.rest_global.proofs.ConstraintsLeft.{form_suits}
+use Rattle.rest_global.proofs.ModelOverBox.{model_over, model_goal}
 
 -- ---- domains
--- the ends of runs are among the numbers
-ends_before : (P : ℤ → Type 0) (z : ℤ) (runs : List (ℤ × ℤ)) → P z → All (λ (run : ℤ × ℤ). P run.0 × P run.1) runs → All (λ (run : ℤ × ℤ). P run.0 × P run.1) (run_before z runs)
-ends_before P z [] here ends = All-cons (λ (run : ℤ × ℤ). P run.0 × P run.1) (z, z) [] (here, here) (All-nil (λ (run : ℤ × ℤ). P run.0 × P run.1))
-ends_before P z (run ∷ runs) here ends = by_test (int_eq (z +ℤ pos 1) run.0)
-  where
-    by_test : (o : Bool) → All (λ (r : ℤ × ℤ). P r.0 × P r.1) (if o then (z, run.1) ∷ runs else (z, z) ∷ run ∷ runs)
-    by_test true = All-cons (λ (r : ℤ × ℤ). P r.0 × P r.1) (z, run.1) runs (here, (All-head (λ (r : ℤ × ℤ). P r.0 × P r.1) run runs ends).1) (All-tail (λ (r : ℤ × ℤ). P r.0 × P r.1) run runs ends)
-    by_test false = All-cons (λ (r : ℤ × ℤ). P r.0 × P r.1) (z, z) (run ∷ runs) (here, here) ends
-
-ends_all : (P : ℤ → Type 0) (xs : List ℤ) → All P xs → All (λ (run : ℤ × ℤ). P run.0 × P run.1) (runs_of xs)
-unfolding runs_of
-ends_all P [] all = All-nil (λ (run : ℤ × ℤ). P run.0 × P run.1)
-ends_all P (z ∷ zs) all = ends_before P z (runs_of zs) (All-head P z zs all) (ends_all P zs (All-tail P z zs all))
-
 -- a domain with all numbers of its hull is one run
 one_has : (low high : ℤ) (z : ℤ) → low ≤ℤ z → z ≤ℤ high → IsIn ((low, high) ∷ []) z
 unfolding IsIn IsWithin
@@ -80,7 +67,7 @@ narrow_runs xs domain false e several =
     let one = ap (length {A = ℤ × ℤ}) (one_run xs domain (omega (arith, ints, e))) in
     absurd (omega (arith, one, several))
 
-pub domain_kept : (xs : List ℤ) → IsDomain xs → DomainKept (runs_of xs)
+pub domain_kept : (xs : List ℤ) → IsDomain xs → DomainInLimits (runs_of xs)
 domain_kept xs domain = record {
   values = ends_all IsValue xs domain.within;
   narrow = narrow_runs xs domain (int_lt (high_value xs -ℤ low_value xs) (pos 1024)) refl;
@@ -94,44 +81,37 @@ variables_few : (box : List (List ℤ)) → length (rest_variables box) ≤ leng
 unfolding rest_variables
 variables_few box = opens_below box (length box)
 
-domains_kept : (box : List (List ℤ)) → IsBox box → All DomainKept (map (λ k. runs_of (domain_at box k)) (rest_variables box))
-domains_kept box sound = All-map DomainKept (λ k. runs_of (domain_at box k)) (rest_variables box) (All-weaker (λ k. k < length box) (λ k. DomainKept (runs_of (domain_at box k))) (λ k inside. domain_kept (domain_at box k) (sound k [] inside)) (rest_variables box) (variables_inside box))
+domains_kept : (box : List (List ℤ)) → IsBox box → All DomainInLimits (map (λ k. runs_of (domain_at box k)) (rest_variables box))
+domains_kept box well_formed = All-map DomainInLimits (λ k. runs_of (domain_at box k)) (rest_variables box) (All-weaker (λ k. k < length box) (λ k. DomainInLimits (runs_of (domain_at box k))) (λ k inside. domain_kept (domain_at box k) (well_formed k [] inside)) (rest_variables box) (variables_inside box))
 
 -- ---- terms
-low_is : (box : List (List ℤ)) (t : Term) → IsBox box → TermIn (length box) t → IsValue (term_low box t)
-low_is box t sound inside = has_value box t (term_low box t) sound inside (has_low box t sound inside)
-
 term_by : (box : List (List ℤ)) (t : Term) (o : Bool) → IsBox box → TermIn (length box) t → is_open box t ≡ o → TermIn (length (rest_variables box)) (numbered box (if o then t else term.Const (term_low box t)))
 unfolding rest_variables
-term_by box (term.Const z) true sound inside e = inside
-term_by box (term.Var k) true sound inside e = (opens_at box (length box) k 0 inside e).0
-term_by box t false sound inside e = low_is box t sound inside
+term_by box (term.Const z) true well_formed inside e = inside
+term_by box (term.Var k) true well_formed inside e = (opens_at box (length box) k 0 inside e).0
+term_by box t false well_formed inside e = low_is box t well_formed inside
 
 pub term_kept : (box : List (List ℤ)) (t : Term) → IsBox box → TermIn (length box) t → TermIn (length (rest_variables box)) (rest_term box t)
-unfolding rest_term settled
-term_kept box t sound inside = term_by box t (is_open box t) sound inside refl
+unfolding rest_term substituted
+term_kept box t well_formed inside = term_by box t (is_open box t) well_formed inside refl
 
 -- a Boolean stays one
-low_bit : (box : List (List ℤ)) (t : Term) → IsBox box → TermIn (length box) t → IsBoolean box t → IsBit (term_low box t)
-low_bit box (term.Const z) sound inside boolean = boolean
-low_bit box (term.Var k) sound inside boolean = let (i, h, is) = low_in (domain_at box k) (sound k [] inside) in subst IsBit is (boolean i (low_value (domain_at box k)) h)
-
 abbrev pub rest_domains : List (List ℤ) → List (List (ℤ × ℤ))
 rest_domains box = map (λ k. runs_of (domain_at box k)) (rest_variables box)
 
 truth_by : (box : List (List ℤ)) (t : Term) (o : Bool) → IsBox box → TermIn (length box) t → IsBoolean box t → is_open box t ≡ o → IsTruth (rest_domains box) (numbered box (if o then t else term.Const (term_low box t)))
 unfolding rest_variables
-truth_by box (term.Const z) true sound inside boolean e = boolean
-truth_by box (term.Var k) true sound inside boolean e =
+truth_by box (term.Const z) true well_formed inside boolean e = boolean
+truth_by box (term.Var k) true well_formed inside boolean e =
     let at = opens_at box (length box) k 0 inside e in
     let is : slice_index_or (map (λ j. runs_of (domain_at box j)) (opens box (length box))) (place box k) [] ≡ runs_of (domain_at box k) =
     get_or-map (λ j. runs_of (domain_at box j)) (opens box (length box)) (place box k) 0 [] at.0 ∙ ap (λ j. runs_of (domain_at box j)) at.1 in
     rw is (ends_all IsBit (domain_at box k) boolean)
-truth_by box t false sound inside boolean e = low_bit box t sound inside boolean
+truth_by box t false well_formed inside boolean e = low_bit box t well_formed inside boolean
 
 truth_kept : (box : List (List ℤ)) (t : Term) → IsBox box → TermIn (length box) t → IsBoolean box t → IsTruth (rest_domains box) (rest_term box t)
-unfolding rest_term settled
-truth_kept box t sound inside boolean = truth_by box t (is_open box t) sound inside boolean refl
+unfolding rest_term substituted
+truth_kept box t well_formed inside boolean = truth_by box t (is_open box t) well_formed inside boolean refl
 
 -- ---- constraints
 module _ (to : Term → Term) (m n : ℕ) (inside : (t : Term) → TermIn m t → TermIn n (to t)) where
@@ -142,19 +122,19 @@ module _ (to : Term → Term) (m n : ℕ) (inside : (t : Term) → TermIn m t �
   unfolding terms_by
   terms_kept ts kept = record { count = omega (arith, length-map ts to, kept.count); terms = list_by ts kept.terms }
 
-  some_kept : (ts : List Term) → ListKept m ts → ListKept n (terms_by to ts)
+  some_kept : (ts : List Term) → ListInLimits m ts → ListInLimits n (terms_by to ts)
   unfolding terms_by
   some_kept ts kept = record { some = omega (arith, length-map ts to, kept.some); terms = terms_kept ts kept.terms }
 
-  parts_kept : (ps : List (ℤ × Term)) → SumKept m ps → SumKept n (parts_by to ps)
-  unfolding parts_by
-  parts_kept ps kept = record {
+  linear_terms_kept : (ps : List (ℤ × Term)) → SumInLimits m ps → SumInLimits n (linear_terms_by to ps)
+  unfolding linear_terms_by
+  linear_terms_kept ps kept = record {
     count = omega (arith, length-map {B = ℤ × Term} ps (λ (p : ℤ × Term). (p.0, to p.1)), kept.count);
     factors = All-map (λ (t : ℤ × Term). IsValue t.0) (λ (p : ℤ × Term). (p.0, to p.1)) ps kept.factors;
     terms = All-map (λ (t : ℤ × Term). TermIn n t.1) (λ (p : ℤ × Term). (p.0, to p.1)) ps (All-weaker (λ (p : ℤ × Term). TermIn m p.1) (λ (p : ℤ × Term). TermIn n (to p.1)) (λ p here. inside p.1 here) ps kept.terms);
   }
 
-  tasks_kept : (ks : List CumTask) → TasksKept m ks → TasksKept n (tasks_by to ks)
+  tasks_kept : (ks : List CumTask) → TasksInLimits m ks → TasksInLimits n (tasks_by to ks)
   unfolding tasks_by
   tasks_kept ks kept = record {
     count = omega (arith, length-map ks (task_by to), kept.count);
@@ -166,7 +146,7 @@ module _ (to : Term → Term) (m n : ℕ) (inside : (t : Term) → TermIn m t �
   unfolding terms_by
   length_by ts = length-map ts to
 
-  rows_kept : (ts : List Term) (rows : List ℤ) → RowsKept m ts rows → RowsKept n (terms_by to ts) rows
+  rows_kept : (ts : List Term) (rows : List ℤ) → RowsInLimits m ts rows → RowsInLimits n (terms_by to ts) rows
   rows_kept ts rows kept = record {
     columns = some_kept ts kept.columns;
     count = kept.count;
@@ -174,12 +154,12 @@ module _ (to : Term → Term) (m n : ℕ) (inside : (t : Term) → TermIn m t �
     values = kept.values;
   }
 
-  base_kept : (b : Base) → BaseKept of_call m b → BaseKept of_call n (base_by to b)
-  base_kept (base.Lin l) kept = record { sum = parts_kept l.terms kept.sum; constant = kept.constant }
+  base_kept : (b : Base) → BaseInLimits of_call m b → BaseInLimits of_call n (base_by to b)
+  base_kept (base.Lin l) kept = record { sum = linear_terms_kept l.terms kept.sum; constant = kept.constant }
   base_kept (base.Clause c) kept = record { pos = terms_kept c.pos kept.pos; neg = terms_kept c.neg kept.neg }
   base_kept (base.Member e) kept = record { x = inside e.x kept.x; set = kept.set }
 
-  con_kept : (c : Con) → ConKept of_call m c → ConKept of_call n (con_by to c)
+  con_kept : (c : Con) → ConInLimits of_call m c → ConInLimits of_call n (con_by to c)
   con_kept (con.Base b) kept = base_kept b kept
   con_kept (con.Reif b r f) kept = (base_kept b kept.0, inside r kept.1)
   con_kept (con.Times a b c) kept = (inside a kept.0, inside b kept.1, inside c kept.2)
@@ -199,24 +179,14 @@ module _ (box : List (List ℤ)) (to : Term → Term) (ds : List (List (ℤ × �
   unfolding terms_by
   truths_kept ts inside booleans = All-map (IsTruth ds) to ts (λ k d below. truth (get_or ts k d) (inside k d below) (booleans k d below))
 
-  base_truths : (b : Base) → BaseKept of_call (length box) b → BaseBooleans box b → BaseTruths ds (base_by to b)
-  base_truths (base.Lin l) kept booleans = tt
+  base_truths : (b : Base) → BaseInLimits of_call (length box) b → BaseBooleans box b → BaseTruths ds (base_by to b)
   base_truths (base.Clause c) kept booleans = (truths_kept c.pos kept.pos.terms booleans.0, truths_kept c.neg kept.neg.terms booleans.1)
-  base_truths (base.Member e) kept booleans = tt
+  base_truths b kept booleans = tt
 
-  con_truths : (c : Con) → ConKept of_call (length box) c → ConBooleans box c → ConTruths ds (con_by to c)
+  con_truths : (c : Con) → ConInLimits of_call (length box) c → ConBooleans box c → ConTruths ds (con_by to c)
   con_truths (con.Base b) kept booleans = base_truths b kept booleans
   con_truths (con.Reif b r f) kept booleans = (base_truths b kept.0 booleans.0, truth r kept.1 booleans.1)
-  con_truths (con.Times a b c) kept booleans = tt
-  con_truths (con.Abs a b) kept booleans = tt
-  con_truths (con.Div a b c) kept booleans = tt
-  con_truths (con.Mod a b c) kept booleans = tt
-  con_truths (con.Greatest e xs) kept booleans = tt
-  con_truths (con.Least e xs) kept booleans = tt
-  con_truths (con.Element i xs c) kept booleans = tt
-  con_truths (con.AllDiffExcept xs taken) kept booleans = tt
-  con_truths (con.CumulUsed tasks used b) kept booleans = tt
-  con_truths (con.Table xs rows) kept booleans = tt
+  con_truths c kept booleans = tt
 
 -- ---- what is left
 -- what holds of each form over the variables of the rest holds of all that are left
@@ -260,7 +230,7 @@ labelled box n (c ∷ cs) ds labels (form, others, other_labels, is, first, left
     })
 
 -- ---- the cost
-part_kept : (n : ℕ) (factor : ℤ) (t : Term) → IsValue factor → TermIn n t → CostKept n (open_part factor t)
+part_kept : (n : ℕ) (factor : ℤ) (t : Term) → IsValue factor → TermIn n t → CostInLimits n (open_part factor t)
 part_kept n factor (term.Const z) small inside = record { count = omega arith; factors = All-nil (λ (p : ℤ × ℕ). IsValue p.0); variables = All-nil (λ (p : ℤ × ℕ). p.1 < n) }
 part_kept n factor (term.Var k) small inside = record {
   count = omega arith;
@@ -268,23 +238,23 @@ part_kept n factor (term.Var k) small inside = record {
   variables = All-cons (λ (p : ℤ × ℕ). p.1 < n) (factor, k) [] inside (All-nil (λ (p : ℤ × ℕ). p.1 < n));
 }
 
-none_kept : (n : ℕ) → CostKept n []
+none_kept : (n : ℕ) → CostInLimits n []
 none_kept n = record { count = omega arith; factors = All-nil (λ (p : ℤ × ℕ). IsValue p.0); variables = All-nil (λ (p : ℤ × ℕ). p.1 < n) }
 
-cost_kept : (box : List (List ℤ)) (g : Goal) → IsBox box → GoalKept (length box) g → CostKept (length (rest_variables box)) (cost_left box g)
-cost_kept box goal.Satisfy sound kept = none_kept (length (rest_variables box))
-cost_kept box (goal.Minimise t) sound kept = part_kept (length (rest_variables box)) (pos 1) (rest_term box t) (omega (arith, ints)) (term_kept box t sound kept)
-cost_kept box (goal.Maximise t) sound kept = part_kept (length (rest_variables box)) (negsuc 0) (rest_term box t) (omega (arith, ints)) (term_kept box t sound kept)
+cost_kept : (box : List (List ℤ)) (g : Goal) → IsBox box → GoalInLimits (length box) g → CostInLimits (length (rest_variables box)) (cost_left box g)
+cost_kept box goal.Satisfy well_formed kept = none_kept (length (rest_variables box))
+cost_kept box (goal.Minimise t) well_formed kept = part_kept (length (rest_variables box)) (pos 1) (rest_term box t) (omega (arith, ints)) (term_kept box t well_formed kept)
+cost_kept box (goal.Maximise t) well_formed kept = part_kept (length (rest_variables box)) (negsuc 0) (rest_term box t) (omega (arith, ints)) (term_kept box t well_formed kept)
 
 -- ---- the rest of a box
 pub rest_kept : (box : List (List ℤ)) (m : Parts) (r : RestParts) → IsBox box → IsModel m → LiesWithin box m → r.doms ≡ rest_domains box → AreLeft box 0 m.cons r.cons r.labels → r.cost ≡ cost_left box m.goal → IsRest r
-rest_kept box m r sound model lies domains left cost = record {
+rest_kept box m r well_formed model lies domains left cost = record {
   variables = omega (arith, count, variables_few box, lies.count, model.variables);
-  domains = rw domains (domains_kept box sound);
+  domains = rw domains (domains_kept box well_formed);
   constraints = omega (arith, labels.few, model.constraints);
-  cons = rw count (left_each box (ConKept of_call (length (rest_variables box))) 0 m.cons r.cons r.labels kept over left);
+  cons = rw count (left_each box (ConInLimits of_call (length (rest_variables box))) 0 m.cons r.cons r.labels kept over left);
   truths = rw domains (left_each box (ConTruths (rest_domains box)) 0 m.cons r.cons r.labels truths over left);
-  cost = rw (count, cost) (cost_kept box m.goal sound (model_goal box m model lies));
+  cost = rw (count, cost) (cost_kept box m.goal well_formed (model_goal box m model lies));
   labelled = labels.same;
   rising = labels.rising;
 }
@@ -298,11 +268,11 @@ rest_kept box m r sound model lies domains left cost = record {
     labels : Labelled 0 (length m.cons) r.cons r.labels
     labels = labelled box 0 m.cons r.cons r.labels left
 
-    kept : (c d : Con) → IsOver box c → IsForm box c (reduced.Is d) → ConKept of_call (length (rest_variables box)) (con_by (rest_term box) d)
-    kept c d here is = con_kept (rest_term box) (length box) (length (rest_variables box)) (λ t inside. term_kept box t sound inside) d (form_suits box c d sound here is).kept
+    kept : (c d : Con) → IsOver box c → IsForm box c (reduced.Is d) → ConInLimits of_call (length (rest_variables box)) (con_by (rest_term box) d)
+    kept c d here is = con_kept (rest_term box) (length box) (length (rest_variables box)) (λ t inside. term_kept box t well_formed inside) d (form_suits box c d well_formed here is).kept
 
     truths : (c d : Con) → IsOver box c → IsForm box c (reduced.Is d) → ConTruths (rest_domains box) (con_by (rest_term box) d)
-    truths c d here is = let suits = form_suits box c d sound here is in con_truths box (rest_term box) (rest_domains box) (λ t inside boolean. truth_kept box t sound inside boolean) d suits.kept suits.booleans
+    truths c d here is = let fits_box = form_suits box c d well_formed here is in con_truths box (rest_term box) (rest_domains box) (λ t inside boolean. truth_kept box t well_formed inside boolean) d fits_box.kept fits_box.booleans
 
 pub rest_is : (box : List (List ℤ)) (m : Parts) (below : ℤ) (r : RestParts) (offset : ℤ) → r.doms ≡ rest_domains box → AreLeft box 0 m.cons r.cons r.labels → r.cost ≡ cost_left box m.goal → offset ≡ cost_offset box m.goal → IsRestOfBox box m below r offset
 rest_is box m below r offset domains constraints cost constant = record { domains = domains; constraints = constraints; cost = cost; constant = constant }

@@ -1,9 +1,4 @@
-pub mod Forms
 pub mod Renamed
 pub mod Projection
 pub mod Projected
-pub mod Numbers
-pub mod Rows
-pub mod Sweep
-pub mod Tasks
 pub mod Making

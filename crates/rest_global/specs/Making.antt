@@ -1,9 +1,9 @@
 -- The rest of a box in the making.
 use Rattle.std.specs.Prelude.{◌≡◌, ℕ, ◌<◌, ◌≤◌, List, [], ◌∷◌, ◌++◌, length, slice_index, ℤ}
 use Rattle.fzn_model.specs.declared.con.Con.{Con}
-use Rattle.fzn_model.specs.Kept.{ConKept, of_model}
+use Rattle.fzn_model.specs.Limits.{ConInLimits, of_model}
 use Rattle.fzn_model.specs.Boxes.{IsBox}
-use Rattle.fzn_model.specs.Booleans.{Suits}
+use Rattle.fzn_model.specs.Booleans.{FitsBox}
 use Rattle.rest_basic.specs.declared.reduced.Reduced.{Reduced}
 use Rattle.rest_basic.specs.declared.reduced.Reduced.TheVariants as reduced
 use Rattle.rest_global.specs.Renamed.{con_by}
@@ -19,12 +19,12 @@ pub record AreNumbered (box : List (List ℤ)) (n : ℕ) (variables places : Lis
   pub are : variables ≡ opens box n
   pub table : ArePlaces box n places
   pub few : length variables ≤ n
-  pub sound : 0 < n → IsBox box
+  pub well_formed : 0 < n → IsBox box
 
 -- a constraint of a model over the variables of the box
 pub record IsOver (box : List (List ℤ)) (c : Con) : Type 0 where
-  pub suits : Suits box c
-  pub kept : ConKept of_model (length box) c
+  pub fits_box : FitsBox box c
+  pub kept : ConInLimits of_model (length box) c
 
 -- what is left of one more constraint, at the end; nothing where it holds
 abbrev pub IsLast : List (List ℤ) → Reduced → ℕ → List Con → List ℕ → List Con → List ℕ → Type 0

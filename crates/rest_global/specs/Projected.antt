@@ -15,7 +15,7 @@ pub record IsWideRest (box : List (List ℤ)) (m : Parts) (below : ℤ) (limit :
   pub is : IsRestOfBox box m below rest offset
   pub words : w.words ≡ length (words_of rest)
   pub more : limit < w.words
-  pub told : w.limit ≡ limit
+  pub bound : w.limit ≡ limit
 
 -- the rest of the box with its offset, where it has at most as many words as the limit; else that it has more
 abbrev pub IsProjected : List (List ℤ) → Parts → ℤ → ℕ → Projected → Type 0

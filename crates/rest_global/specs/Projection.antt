@@ -13,11 +13,11 @@ use Rattle.fzn_model.specs.Bounds.{TermHas, is_open}
 use Rattle.fzn_model.specs.Grouping.{runs_of}
 use Rattle.fzn_model.specs.Solutions.{Solves, cost}
 use Rattle.fzn_model.specs.Rests.{RestParts, SolvesRest, rest_cost}
-use Rattle.rest_basic.specs.Forms.{settled, plain_form}
-use Rattle.rest_basic.specs.Says.{IsPlain}
+use Rattle.rest_basic.specs.Forms.{substituted, plain_form}
+use Rattle.rest_basic.specs.Equivalence.{IsPlain}
 use Rattle.rest_basic.specs.declared.reduced.Reduced.{Reduced}
 use Rattle.rest_basic.specs.declared.reduced.Reduced.TheVariants as reduced
-use Rattle.rest_global.specs.Forms.{IsGlobalForm}
+use Rattle.rest_forms.specs.Forms.{IsGlobalForm}
 use Rattle.rest_global.specs.Renamed.{con_by}
 
 -- ---- variables
@@ -36,7 +36,7 @@ numbered box (term.Const z) = term.Const z
 numbered box (term.Var k) = term.Var (place box k)
 
 unfoldable pub rest_term : List (List ℤ) → Term → Term
-rest_term box t = numbered box (settled box t)
+rest_term box t = numbered box (substituted box t)
 
 -- the variables of the rest, in order
 unfoldable pub rest_variables : List (List ℤ) → List ℕ

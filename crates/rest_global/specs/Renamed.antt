@@ -11,8 +11,8 @@ module _ (to : Term → Term) where
   unfoldable pub terms_by : List Term → List Term
   terms_by ts = map to ts
 
-  unfoldable pub parts_by : List (ℤ × Term) → List (ℤ × Term)
-  parts_by ps = map (λ p. (p.0, to p.1)) ps
+  unfoldable pub linear_terms_by : List (ℤ × Term) → List (ℤ × Term)
+  linear_terms_by ps = map (λ p. (p.0, to p.1)) ps
 
   abbrev pub task_by : CumTask → CumTask
   task_by k = record { s = to k.s; d = to k.d; r = to k.r }
@@ -21,7 +21,7 @@ module _ (to : Term → Term) where
   tasks_by ks = map task_by ks
 
   abbrev pub base_by : Base → Base
-  base_by (base.Lin l) = base.Lin (record { rel = l.rel; terms = parts_by l.terms; r = l.r })
+  base_by (base.Lin l) = base.Lin (record { rel = l.rel; terms = linear_terms_by l.terms; r = l.r })
   base_by (base.Clause c) = base.Clause (record { pos = terms_by c.pos; neg = terms_by c.neg })
   base_by (base.Member m) = base.Member (record { x = to m.x; set = m.set })
 

@@ -1,7 +1,7 @@
 //! The cost of the rest of a box, and the offset.
 
 ghost use Rattle.std.specs.Prelude.{◌≡◌, IfOk, length};
-ghost use Rattle.fzn_model.specs.Kept.{GoalKept};
+ghost use Rattle.fzn_model.specs.Limits.{GoalInLimits};
 ghost use Rattle.rest_global.specs.Projection.{open_part, constant_part, cost_left, cost_offset};
 ghost use Rattle.rest_global.specs.Making.{ArePlaces};
 
@@ -38,7 +38,7 @@ pub(crate) fn cost_left<V: BoxView>(
     view: &V,
 ) -> Result<List<(i64, u32)>, AllocError>
     requires places { ArePlaces (V.shape view.now) (length (V.shape view.now)) places.now }
-    requires goal { GoalKept (length (V.shape view.now)) goal }
+    requires goal { GoalInLimits (length (V.shape view.now)) goal }
     ensures { IfOk result (λ cost. cost ≡ cost_left (V.shape view.now) goal) }
 {
     match goal {
@@ -51,7 +51,7 @@ pub(crate) fn cost_left<V: BoxView>(
 /// The part of the cost that is constant in the box.
 pub(crate) fn cost_offset<V: BoxView>(goal: Goal, places: &[u32], view: &V) -> i128
     requires places { ArePlaces (V.shape view.now) (length (V.shape view.now)) places.now }
-    requires goal { GoalKept (length (V.shape view.now)) goal }
+    requires goal { GoalInLimits (length (V.shape view.now)) goal }
     ensures { result ≡ cost_offset (V.shape view.now) goal }
 {
     match goal {

@@ -11,8 +11,8 @@ ghost use Rattle.rest_global.specs.Making.{ArePlaces};
 
 use crate::cost::{cost_left, cost_offset};
 use crate::domains::domains_of;
-use crate::left::{Left, left_of};
-use crate::places::numbering_of;
+use crate::labelled::{Labelled, left_of};
+use crate::numbering::numbering_of;
 use crate::projected::Projected;
 use crate::wide::Wide;
 use fzn_model::{BoxView, List, Model, Rest, Runs};
@@ -20,7 +20,7 @@ use rest_key::count;
 use std::alloc::{AllocError, Global};
 
 /// The residual problem of these parts.
-fn of_parts(doms: List<Runs>, cost: List<(i64, u32)>, left: Left) -> Rest
+fn of_parts(doms: List<Runs>, cost: List<(i64, u32)>, left: Labelled) -> Rest
     requires { IsRest (record { doms = doms; cost = cost; cons = left.cons; labels = left.labels }) }
     ensures { result ≡ record { doms = doms; cost = cost; cons = left.cons; labels = left.labels } }
 {
@@ -33,7 +33,7 @@ fn of_parts(doms: List<Runs>, cost: List<(i64, u32)>, left: Left) -> Rest
 }
 
 /// The rest over these open variables, and its offset.
-#[tactic(auto, using(crate::proofs::Within::model_goal, crate::proofs::RestKept::variables_inside, crate::proofs::RestKept::rest_is))]
+#[tactic(auto, using(crate::proofs::ModelOverBox::model_goal, crate::proofs::RestKept::variables_inside, crate::proofs::RestKept::rest_is))]
 fn rest_over<V: BoxView>(
     alloc: Global,
     model: &Model,
@@ -41,7 +41,7 @@ fn rest_over<V: BoxView>(
     places: &[u32],
     view: &V,
 ) -> Result<(Rest, i128), AllocError>
-    requires sound { IsBox (V.shape view.now) }
+    requires well_formed { IsBox (V.shape view.now) }
     requires within { LiesWithin (V.shape view.now) model.now }
     requires variables { variables.now ≡ rest_variables (V.shape view.now) }
     requires places { ArePlaces (V.shape view.now) (length (V.shape view.now)) places.now }
@@ -82,8 +82,8 @@ fn within_limit(rest: Rest, offset: i128, limit: u32) -> Projected
 }
 
 /// What is left of a model in a box: the residual problem over the variables that are open there, with its offset. On
-/// the solutions of the box that cost less than the bound it agrees with the model, and costs differ by the offset. Where
-/// it has more words than the limit, it answers how many.
+/// the solutions of the box that cost less than the bound `below` it agrees with the model, and costs differ by the offset.
+/// Where it has more words than `limit`, the answer is how many. The one error is that memory runs out.
 ///
 /// It goes once over the domains and over the constraints, and takes memory for what is left.
 pub fn project<V: BoxView>(

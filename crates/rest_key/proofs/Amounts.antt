@@ -1,26 +1,18 @@
 -- The difference of two lists of used amounts rises only where one of the first begins or one of the second ends, so what
 -- bounds it there, and before all moments, bounds it always.
-use Rattle.std.proofs.Common.{◌≡◌, ℕ, suc, zero, ◌+◌, ◌-◌, ◌<◌, ◌≤◌, ◌⊎◌, inl, inr, Bool, cond, ◌&&◌, List, [], ◌∷◌, length, get_or, drop, refl, ap, arith, ℤ, pos, negsuc, ◌+ℤ◌, ◌-ℤ◌, ◌≤ℤ◌, ◌<ℤ◌, add-one, drop-cons, below_more, subst}
-use Rattle.std.specs.Prelude.{int_le, int_lt, unsigned_abs}
+use Rattle.std.proofs.Common.{◌≡◌, ℕ, suc, zero, ◌+◌, ◌-◌, ◌*◌, ◌<◌, ◌≤◌, ◌⊎◌, inl, inr, List, [], ◌∷◌, length, get_or, refl, arith, ℤ, pos, negsuc, ◌-ℤ◌, ◌≤ℤ◌, ◌<ℤ◌, below_more, subst}
+use Rattle.std.specs.Prelude.{unsigned_abs}
 use Rattle.std.specs.List.{AllByRecursion}
 use Rattle.std.proofs.lemmas.Int.{ints, by_lt_z}
 use Rattle.std.proofs.lemmas.List.{get_or_default}
 use Rattle.std.proofs.lemmas.List.Elements.{recursion_from_All}
 use Rattle.fzn_model.specs.Meaning.{amount_at}
-use Rattle.fzn_model.specs.Kept.{UsedKept, of_call}
+use Rattle.fzn_model.specs.Values.{largest}
+use Rattle.fzn_model.specs.Limits.{UsedInLimits, of_call}
 use Rattle.fzn_model.specs.declared.cumulative.Used.{Used}
+use Rattle.fzn_model.proofs.Moments.{part}
 use Rattle.rest_key.specs.Weaker.{LeavesAsMuch, UsesNoMore}
-use Rattle.rest_key.specs.Parts.{AreApart, IsFirstAfter, excess_at, StaysBelow, BeginsBelow, EndsBelow}
-
-abbrev pub active : Used → ℤ → Bool
-active u t = int_le u.from t && int_lt t u.to
-
-abbrev pub part : Used → ℤ → ℤ
-part u t = cond (active u t) u.amount (pos 0)
-
--- what is used of the amounts from place i on is what is of the one there and of those after it
-pub amount_drop : (us : List Used) (i : ℕ) (d : Used) (t : ℤ) → i < length us → amount_at (drop i us) t ≡ part (get_or us i d) t +ℤ amount_at (drop (i + 1) us) t
-amount_drop us i d t h = rw add-one (ap (λ xs. amount_at xs t) (drop-cons us i d h))
+use Rattle.rest_key.specs.PartTests.{AreApart, IsFirstAfter, excess_at, StaysBelow, BeginsBelow, EndsBelow}
 
 -- The latest of some moments that aren't after t: a member's, and each other member's is at most it or after t.
 record Latest {X : Type 0} (f : X → ℤ) (xs : List X) (t : ℤ) : Type 0 where
@@ -90,11 +82,11 @@ nothing_yet [] t h = refl
 nothing_yet (u ∷ us) t h = let p : part u t ≡ pos 0 = part_later u t h.0 in let q = nothing_yet us t h.1 in omega (arith, ints)
 
 -- the amounts of a kept list aren't negative
-amounts : (us : List Used) → UsedKept of_call us → AllByRecursion (λ u. pos 0 ≤ℤ u.amount) us
+amounts : (us : List Used) → UsedInLimits of_call us → AllByRecursion (λ u. pos 0 ≤ℤ u.amount) us
 amounts us k = recursion_from_All (λ u. pos 0 ≤ℤ u.amount) us (λ i d p. (k.amounts i d p).0)
 
 -- where the difference is bounded at the moment, it is at the later t
-below_from : (us vs : List Used) (r t m : ℤ) → UsedKept of_call us → UsedKept of_call vs → m ≤ℤ t → AllByRecursion (λ u. u.from ≤ℤ t → u.from ≤ℤ m) us → AllByRecursion (λ u. u.to ≤ℤ t → u.to ≤ℤ m) vs → excess_at us vs m ≤ℤ r → excess_at us vs t ≤ℤ r
+below_from : (us vs : List Used) (r t m : ℤ) → UsedInLimits of_call us → UsedInLimits of_call vs → m ≤ℤ t → AllByRecursion (λ u. u.from ≤ℤ t → u.from ≤ℤ m) us → AllByRecursion (λ u. u.to ≤ℤ t → u.to ≤ℤ m) vs → excess_at us vs m ≤ℤ r → excess_at us vs t ≤ℤ r
 below_from us vs r t m k l h f g e =
     let p = amount_falls us t m h f (amounts us k) in
     let q = amount_rises vs t m h g (amounts vs l) in
@@ -109,7 +101,7 @@ ended : (us vs : List Used) (r t : ℤ) → EndsBelow us vs r → (l : Latest (�
 unfolding EndsBelow
 ended us vs r t b l = let d : Used = record { from = pos 0; to = pos 0; amount = pos 0 } in subst (λ (m : ℤ). excess_at us vs m ≤ℤ r) (l.is d) (b l.at d l.within)
 
-below_at : (us vs : List Used) (r t : ℤ) → UsedKept of_call us → UsedKept of_call vs → pos 0 ≤ℤ r → BeginsBelow us vs r → EndsBelow us vs r → AllByRecursion (λ (u : Used). t <ℤ u.from) us ⊎ Latest (λ (u : Used). u.from) us t → AllByRecursion (λ (u : Used). t <ℤ u.to) vs ⊎ Latest (λ (u : Used). u.to) vs t → excess_at us vs t ≤ℤ r
+below_at : (us vs : List Used) (r t : ℤ) → UsedInLimits of_call us → UsedInLimits of_call vs → pos 0 ≤ℤ r → BeginsBelow us vs r → EndsBelow us vs r → AllByRecursion (λ (u : Used). t <ℤ u.from) us ⊎ Latest (λ (u : Used). u.from) us t → AllByRecursion (λ (u : Used). t <ℤ u.to) vs ⊎ Latest (λ (u : Used). u.to) vs t → excess_at us vs t ≤ℤ r
 below_at us vs r t k l z b e (inl none) ends = let p = nothing_yet us t none in let q = not_negative vs t (amounts vs l) in omega (arith, ints, p, q)
 below_at us vs r t k l z b e (inr one) (inl none) = below_from us vs r t one.moment k l one.before one.last (none_before (λ (u : Used). u.to) vs t one.moment none) (begun us vs r t b one)
 below_at us vs r t k l z b e (inr one) (inr two) = elim (in_order one.moment two.moment) [
@@ -117,7 +109,7 @@ below_at us vs r t k l z b e (inr one) (inr two) = elim (in_order one.moment two
   | inr h ↦ below_from us vs r t one.moment k l one.before one.last (by_more (λ (u : Used). u.to) vs t two.moment one.moment (omega (arith, ints)) two.last) (begun us vs r t b one)
 ]
 
-pub stays_below : (us vs : List Used) (r : ℤ) → UsedKept of_call us → UsedKept of_call vs → pos 0 ≤ℤ r → BeginsBelow us vs r → EndsBelow us vs r → StaysBelow us vs r
+pub stays_below : (us vs : List Used) (r : ℤ) → UsedInLimits of_call us → UsedInLimits of_call vs → pos 0 ≤ℤ r → BeginsBelow us vs r → EndsBelow us vs r → StaysBelow us vs r
 unfolding StaysBelow
 stays_below us vs r k l z b e t = below_at us vs r t k l z b e (latest (λ (u : Used). u.from) us t) (latest (λ (u : Used). u.to) vs t)
 
@@ -130,19 +122,19 @@ unfolding StaysBelow EndsBelow
 below_ends us vs r s i d h = s _
 
 -- before the least moment that a call takes nothing is used
-part_early : (u : Used) → unsigned_abs u.from ≤ 2000000 → part u (negsuc 2000000) ≡ pos 0
-part_early u h = part_later u (negsuc 2000000) (omega (arith, ints))
+part_early : (u : Used) → unsigned_abs u.from ≤ 2 * largest → part u (negsuc (2 * largest)) ≡ pos 0
+part_early u h = part_later u (negsuc (2 * largest)) (omega (arith, ints))
 
-unused : (us : List Used) → AllByRecursion (λ (u : Used). unsigned_abs u.from ≤ 2000000) us → amount_at us (negsuc 2000000) ≡ pos 0
+unused : (us : List Used) → AllByRecursion (λ (u : Used). unsigned_abs u.from ≤ 2 * largest) us → amount_at us (negsuc (2 * largest)) ≡ pos 0
 unused [] h = refl
-unused (u ∷ us) h = let p : part u (negsuc 2000000) ≡ pos 0 = part_early u h.0 in let q = unused us h.1 in omega (arith, ints)
+unused (u ∷ us) h = let p : part u (negsuc (2 * largest)) ≡ pos 0 = part_early u h.0 in let q = unused us h.1 in omega (arith, ints)
 
-unused_kept : (us : List Used) → UsedKept of_call us → amount_at us (negsuc 2000000) ≡ pos 0
-unused_kept us k = unused us (recursion_from_All (λ (u : Used). unsigned_abs u.from ≤ 2000000) us (λ i d p. (k.moments i d p).0))
+unused_kept : (us : List Used) → UsedInLimits of_call us → amount_at us (negsuc (2 * largest)) ≡ pos 0
+unused_kept us k = unused us (recursion_from_All (λ (u : Used). unsigned_abs u.from ≤ 2 * largest) us (λ i d p. (k.moments i d p).0))
 
-pub below_room : (us vs : List Used) (r : ℤ) → UsedKept of_call us → UsedKept of_call vs → StaysBelow us vs r → pos 0 ≤ℤ r
+pub below_room : (us vs : List Used) (r : ℤ) → UsedInLimits of_call us → UsedInLimits of_call vs → StaysBelow us vs r → pos 0 ≤ℤ r
 unfolding StaysBelow
-below_room us vs r k l s = let h = s (negsuc 2000000) in let p = unused_kept us k in let q = unused_kept vs l in omega (arith, ints, h, p, q)
+below_room us vs r k l s = let h = s (negsuc (2 * largest)) in let p = unused_kept us k in let q = unused_kept vs l in omega (arith, ints, h, p, q)
 
 pub leaves_stays : (b : ℤ) (us : List Used) (c : ℤ) (vs : List Used) (r : ℤ) → r ≡ b -ℤ c → LeavesAsMuch b us c vs → StaysBelow us vs r
 unfolding LeavesAsMuch StaysBelow

@@ -1,7 +1,8 @@
-pub mod Equal
-pub mod Inside
+pub mod EqualParts
+pub mod RunsWithin
 pub mod Amounts
-pub mod Labels
-pub mod Lawful
-pub mod Counting
-pub mod Injective
+pub mod RisingLabels
+pub mod WeakerLaw
+pub mod WordCounts
+pub mod EqualWords
+pub mod Comparable

@@ -4,7 +4,7 @@ use Rattle.fzn_model.specs.declared.base.Base.{Base}
 use Rattle.fzn_model.specs.declared.base.Base.TheVariants as base
 use Rattle.fzn_model.specs.declared.con.Con.{Con}
 use Rattle.fzn_model.specs.declared.con.Con.TheVariants as con
-use Rattle.fzn_model.specs.Kept.{IsValue}
+use Rattle.fzn_model.specs.Limits.{IsValue}
 
 abbrev pub base_count : Base → ℕ
 base_count (base.Lin l) = 2 + 3 * length l.terms
@@ -48,13 +48,10 @@ IsShortBase (base.Member m) = IsNarrow m.set
 abbrev pub IsShort : Con → Type 0
 IsShort (con.Base b) = IsShortBase b
 IsShort (con.Reif b r f) = IsShortBase b
-IsShort (con.Times a b c) = ⊤
-IsShort (con.Abs a b) = ⊤
-IsShort (con.Div a b c) = ⊤
-IsShort (con.Mod a b c) = ⊤
 IsShort (con.Greatest m xs) = length xs ≤ 2000000
 IsShort (con.Least m xs) = length xs ≤ 2000000
 IsShort (con.Element i xs c) = length xs ≤ 2000000
 IsShort (con.AllDiffExcept xs taken) = (length xs ≤ 2000000) × (length taken ≤ 4000000)
 IsShort (con.CumulUsed tasks used b) = (length tasks ≤ 2000000) × (length used ≤ 8000000)
 IsShort (con.Table xs rows) = (length xs ≤ 2000000) × (length rows ≤ 2000000)
+IsShort c = ⊤

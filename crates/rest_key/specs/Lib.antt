@@ -4,5 +4,5 @@ pub mod Words
 pub mod Digest
 pub mod Comparing
 pub mod Counts
-pub mod Parts
-pub mod Left
+pub mod PartTests
+pub mod WordsLeft

@@ -45,26 +45,42 @@ UsesNoMore used other_used = (t : ℤ) → amount_at used t ≤ℤ amount_at oth
 -- the same terms, and no lesser number, or the same one
 abbrev pub WeakerLin : Rel → Lin → Rel → Lin → Type 0
 WeakerLin rel.Le l0 rel.Le l = (l0.terms ≡ l.terms) × (l.r ≤ℤ l0.r)
+WeakerLin rel.Le l0 other l = ⊥
 WeakerLin rel.Eq l0 rel.Eq l = (l0.terms ≡ l.terms) × (l.r ≡ l0.r)
+WeakerLin rel.Eq l0 other l = ⊥
 WeakerLin rel.Ne l0 rel.Ne l = (l0.terms ≡ l.terms) × (l.r ≡ l0.r)
-WeakerLin _ l0 _ l = ⊥
+WeakerLin rel.Ne l0 other l = ⊥
 
 -- more literals; a greater set
 abbrev pub WeakerBase : Base → Base → Type 0
 WeakerBase (base.Lin l0) (base.Lin l) = WeakerLin l0.rel l0 l.rel l
+WeakerBase (base.Lin l0) b = ⊥
 WeakerBase (base.Clause c0) (base.Clause c) = AreAmong c.pos c0.pos × AreAmong c.neg c0.neg
+WeakerBase (base.Clause c0) b = ⊥
 WeakerBase (base.Member m0) (base.Member m) = (m0.x ≡ m.x) × SetWithin m.set m0.set
-WeakerBase _ _ = ⊥
+WeakerBase (base.Member m0) b = ⊥
 
 -- more room at each moment; where a capacity is a variable, the same one and no more use
 abbrev pub WeakerCapacity : List Used → Term → List Used → Term → Type 0
 WeakerCapacity used0 (term.Const b0) used (term.Const b) = LeavesAsMuch b0 used0 b used
 WeakerCapacity used0 b0 used b = (b0 ≡ b) × UsesNoMore used0 used
 
--- The first constraint is weaker than the second.
+-- The first constraint is weaker than the second. Each kind has a row of its own: a kind without one isn't covered, and the
+-- definition is refused. Constraints of two kinds are never weaker than each other.
 abbrev pub Weaker : Con → Con → Type 0
 Weaker (con.Base b0) (con.Base b) = WeakerBase b0 b
+Weaker (con.Base b0) c = ⊥
+Weaker (con.Reif b0 r0 f0) c = con.Reif b0 r0 f0 ≡ c
+Weaker (con.Times x0 y0 z0) c = con.Times x0 y0 z0 ≡ c
+Weaker (con.Abs x0 y0) c = con.Abs x0 y0 ≡ c
+Weaker (con.Div x0 y0 z0) c = con.Div x0 y0 z0 ≡ c
+Weaker (con.Mod x0 y0 z0) c = con.Mod x0 y0 z0 ≡ c
+Weaker (con.Greatest m0 xs0) c = con.Greatest m0 xs0 ≡ c
+Weaker (con.Least m0 xs0) c = con.Least m0 xs0 ≡ c
+Weaker (con.Element i0 xs0 z0) c = con.Element i0 xs0 z0 ≡ c
 Weaker (con.AllDiffExcept xs0 taken0) (con.AllDiffExcept xs taken) = (xs0 ≡ xs) × AreAmong taken0 taken
+Weaker (con.AllDiffExcept xs0 taken0) c = ⊥
 Weaker (con.CumulUsed tasks0 used0 b0) (con.CumulUsed tasks used b) = (tasks0 ≡ tasks) × WeakerCapacity used0 b0 used b
+Weaker (con.CumulUsed tasks0 used0 b0) c = ⊥
 Weaker (con.Table xs0 rows0) (con.Table xs rows) = (xs0 ≡ xs) × RowsWithin (length xs) rows rows0
-Weaker c0 c = c0 ≡ c
+Weaker (con.Table xs0 rows0) c = ⊥

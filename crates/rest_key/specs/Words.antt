@@ -1,5 +1,4 @@
--- A residual problem as a list of words, and what is left of it where all that dominance may differ in is left out. It is
--- this project's own.
+-- A residual problem as a list of words, and those of them that the far digest takes. It is this project's own.
 use Rattle.std.specs.Prelude.{ℕ, List, [], ◌∷◌, ◌++◌, length, ℤ, pos}
 use Rattle.std.specs.List.{flat_map}
 use Rattle.fzn_model.specs.Meaning.{bit}
@@ -35,8 +34,8 @@ run_words run = run.0 ∷ run.1 ∷ []
 abbrev pub set_words : List (ℤ × ℤ) → List ℤ
 set_words set = list_words run_words set
 
-abbrev pub part_words : ℤ × Term → List ℤ
-part_words p = p.0 ∷ term_words p.1
+abbrev pub linear_term_words : ℤ × Term → List ℤ
+linear_term_words p = p.0 ∷ term_words p.1
 
 abbrev pub cost_words : ℤ × ℕ → List ℤ
 cost_words p = p.0 ∷ pos p.1 ∷ []
@@ -73,7 +72,7 @@ kind_number (con.CumulUsed tasks used b) = pos 15
 kind_number (con.Table xs rows) = pos 16
 
 abbrev pub base_parts : Base → List ℤ
-base_parts (base.Lin l) = list_words part_words l.terms ++ l.r ∷ []
+base_parts (base.Lin l) = list_words linear_term_words l.terms ++ l.r ∷ []
 base_parts (base.Clause c) = list_words term_words c.pos ++ list_words term_words c.neg
 base_parts (base.Member m) = term_words m.x ++ set_words m.set
 
@@ -91,12 +90,14 @@ con_parts (con.AllDiffExcept xs taken) = list_words term_words xs ++ list_words 
 con_parts (con.CumulUsed tasks used b) = list_words task_words tasks ++ list_words used_words used ++ term_words b
 con_parts (con.Table xs rows) = list_words term_words xs ++ list_words number_words rows
 
--- What weaker constraints may differ in is left out: the number of a relation Le, literals, sets, taken values, used
--- amounts and a constant capacity, rows. Inside a reified base nothing is.
+-- The parts of a constraint that the far digest takes: all but the number of a relation Le, the literals of a clause, the
+-- set of a member, taken values, used amounts, a constant capacity, and rows. Of a reified base it takes all parts. Two
+-- constraints of which the one is weaker than the other have the same ones. Each kind has a row of its own: a kind without
+-- one isn't covered, and the definition is refused.
 abbrev pub far_lin : Rel → Lin → List ℤ
-far_lin rel.Le l = list_words part_words l.terms
-far_lin rel.Eq l = list_words part_words l.terms ++ l.r ∷ []
-far_lin rel.Ne l = list_words part_words l.terms ++ l.r ∷ []
+far_lin rel.Le l = list_words linear_term_words l.terms
+far_lin rel.Eq l = list_words linear_term_words l.terms ++ l.r ∷ []
+far_lin rel.Ne l = list_words linear_term_words l.terms ++ l.r ∷ []
 
 abbrev pub far_capacity : Term → List ℤ
 far_capacity (term.Const z) = []
@@ -109,10 +110,17 @@ far_base (base.Member m) = term_words m.x
 
 abbrev pub far_parts : Con → List ℤ
 far_parts (con.Base b) = far_base b
+far_parts (con.Reif b r f) = con_parts (con.Reif b r f)
+far_parts (con.Times a b c) = con_parts (con.Times a b c)
+far_parts (con.Abs a b) = con_parts (con.Abs a b)
+far_parts (con.Div a b c) = con_parts (con.Div a b c)
+far_parts (con.Mod a b c) = con_parts (con.Mod a b c)
+far_parts (con.Greatest m xs) = con_parts (con.Greatest m xs)
+far_parts (con.Least m xs) = con_parts (con.Least m xs)
+far_parts (con.Element i xs c) = con_parts (con.Element i xs c)
 far_parts (con.AllDiffExcept xs taken) = list_words term_words xs
 far_parts (con.CumulUsed tasks used b) = list_words task_words tasks ++ far_capacity b
 far_parts (con.Table xs rows) = list_words term_words xs
-far_parts c = con_parts c
 
 -- ---- residual problems
 -- each constraint: its label, the number of its kind, and its parts
@@ -124,6 +132,7 @@ labelled parts (c ∷ cs) (label ∷ labels) = pos label ∷ kind_number c ∷ p
 unfoldable pub words_of : RestParts → List ℤ
 words_of r = list_words set_words r.doms ++ list_words cost_words r.cost ++ pos (length r.cons) ∷ labelled con_parts r.cons r.labels
 
--- without the domains, and without what weaker constraints may differ in
+-- Those that the far digest takes: all but the domains and what it doesn't take of a constraint. Labels and the number of
+-- constraints are among them, so a problem that dominates another may have others: it may have fewer constraints.
 unfoldable pub far_words : RestParts → List ℤ
 far_words r = pos (length r.doms) ∷ list_words cost_words r.cost ++ pos (length r.cons) ∷ labelled far_parts r.cons r.labels

@@ -7,7 +7,7 @@ ghost use Rattle.rest_key.specs.Weaker.{IsAmong, AreAmong};
 use fzn_model::Term;
 
 /// Whether the term is one of the others; where it is, `next` becomes a place to look for the next one from.
-#[tactic(auto, using(crate::proofs::Equal::term_decides), unfolding(crate::specs::Weaker::IsAmong))]
+#[tactic(auto, using(crate::proofs::EqualParts::term_decides), unfolding(crate::specs::Weaker::IsAmong))]
 fn is_term_among(term: Term, others: &[Term], next: &mut usize) -> bool
     ensures { IsTrue result ↔ IsAmong others.now term }
 {

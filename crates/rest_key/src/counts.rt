@@ -1,15 +1,16 @@
-ghost use Rattle.std.specs.Prelude.{◌≡◌, ◌*◌, ◌≤◌, All, length};
+ghost use Rattle.std.specs.Prelude.{◌≡◌, ◌+◌, ◌*◌, ◌≤◌, All, length};
+ghost use Rattle.fzn_model.specs.Values.{largest};
 ghost use Rattle.rest_key.specs.Counts.{base_count, con_count, cons_count, domains_count, IsNarrow, IsShortBase, IsShort};
 ghost use Rattle.rest_key.specs.Words.{words_of};
 
 use fzn_model::{Base, Con, Rest, Runs};
 
 /// How many runs a set has.
-#[tactic(auto, using(crate::proofs::Counting::few_runs))]
+#[tactic(auto, using(crate::proofs::WordCounts::few_runs))]
 fn run_count(set: &Runs) -> u64
     requires { IsNarrow set.now }
     ensures value { result ≡ length set.now }
-    ensures small { result ≤ 1000001 }
+    ensures small { result ≤ largest + 1 }
 {
     set.runs.as_slice().len() as u64
 }
@@ -18,7 +19,7 @@ fn run_count(set: &Runs) -> u64
 fn base_count(base: &Base) -> u64
     requires { IsShortBase base.now }
     ensures value { result ≡ base_count base.now }
-    ensures small { result ≤ 8000002 }
+    ensures small { result ≤ 8000002 + 2 * largest }
 {
     match base {
         Base::Lin(lin) => 2 + 3 * lin.terms.as_slice().len() as u64,
@@ -33,7 +34,7 @@ fn base_count(base: &Base) -> u64
 fn con_count(con: &Con) -> u64
     requires { IsShort con.now }
     ensures value { result ≡ con_count con.now }
-    ensures small { result ≤ 36000005 }
+    ensures small { result ≤ 36000005 + 2 * largest }
 {
     match con {
         Con::Base(base) => 1 + base_count(base),
@@ -53,12 +54,12 @@ fn con_count(con: &Con) -> u64
 }
 
 /// How many words domains are.
-#[tactic(auto, using(crate::proofs::Counting::domains_from, crate::proofs::Counting::domains_end))]
+#[tactic(auto, using(crate::proofs::WordCounts::domains_from, crate::proofs::WordCounts::domains_end))]
 fn domains_count(domains: &[Runs]) -> u64
     requires few { length domains.now ≤ 100000 }
     requires narrow { All IsNarrow domains.now }
     ensures value { result ≡ domains_count domains.now }
-    ensures small { result ≤ 100000 * 2000003 }
+    ensures small { result ≤ 100000 * (2 * largest + 3) }
 {
     let mut count = 0;
     for domain in domains {
@@ -68,12 +69,12 @@ fn domains_count(domains: &[Runs]) -> u64
 }
 
 /// How many words labelled constraints are.
-#[tactic(auto, using(crate::proofs::Counting::cons_from, crate::proofs::Counting::cons_end))]
+#[tactic(auto, using(crate::proofs::WordCounts::cons_from, crate::proofs::WordCounts::cons_end))]
 fn cons_count(cons: &[Con]) -> u64
     requires few { length cons.now ≤ 400000 }
     requires short { All IsShort cons.now }
     ensures value { result ≡ cons_count cons.now }
-    ensures small { result ≤ 400000 * 36000006 }
+    ensures small { result ≤ 400000 * (36000006 + 2 * largest) }
 {
     let mut count = 0;
     for con in cons {
@@ -83,7 +84,7 @@ fn cons_count(cons: &[Con]) -> u64
 }
 
 /// How many words a residual problem is. It goes over its domains and its constraints, and not over its words.
-#[tactic(auto, using(crate::proofs::Counting::words_count, crate::proofs::Counting::domains_narrow, crate::proofs::Counting::cons_short))]
+#[tactic(auto, using(crate::proofs::WordCounts::words_count, crate::proofs::WordCounts::domains_narrow, crate::proofs::WordCounts::cons_short))]
 pub fn count(rest: &Rest) -> u64
     ensures { result ≡ length (words_of rest.now) }
 {

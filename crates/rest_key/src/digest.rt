@@ -40,8 +40,10 @@ pub fn near(rest: &Rest) -> u64
     digest_of(words(rest))
 }
 
-/// The digest of what a residual problem which this one dominates has as well: all words but those of the domains and of
-/// what a weaker constraint may differ in. Takes no memory; a step a word.
+/// The digest of all words but the domains, the number of each linear relation Le, the literals of each clause, the set of
+/// each member, and all taken values, used amounts, constant capacities and rows. Two residual problems of which the one
+/// dominates the other mostly have the same, but need not: labels and the number of constraints are digested, and the one
+/// that dominates may have fewer constraints. Takes no memory; a step a word.
 pub fn far(rest: &Rest) -> u64
     ensures { result ≡ digest_of (far_words rest.now) }
 {

@@ -54,7 +54,7 @@ fn are_domains_within(domains: &[Runs], others: &[Runs]) -> bool
 /// domain, and each of its constraints is weaker than one with the same label. Then each solution of the second is one of
 /// the first, at the same cost. Takes no memory. As many steps as the two have words, and a binary search for each run and
 /// each label, but for lists that `weaker` compares by pairs.
-#[tactic(auto, using(crate::specs::Comparing::can_compare))]
+#[tactic(auto, using(crate::proofs::Comparable::can_compare))]
 pub fn dominates(first: &Rest, second: &Rest) -> bool
     ensures { IsTrue result ↔ Dominates first.now second.now }
 {

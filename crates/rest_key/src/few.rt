@@ -1,7 +1,7 @@
 ghost use Rattle.std.specs.Prelude.{◌≡◌, ◌++◌, [], ◌∷◌};
 ghost use Rattle.std.specs.Iterator.{YieldsFirst};
 ghost use Rattle.rest_key.specs.Words.{term_words};
-ghost use Rattle.rest_key.specs.Left.{few_words};
+ghost use Rattle.rest_key.specs.WordsLeft.{few_words};
 
 use fzn_model::Term;
 

@@ -1,14 +1,14 @@
 ghost use Rattle.std.specs.Prelude.{◌≡◌, ◌++◌, ◌∷◌, [], MatchOption};
 ghost use Rattle.rest_key.specs.Words.{rel_number, base_number, kind_number, base_parts, con_parts, far_parts, far_lin, far_base, far_capacity, list_words, task_words};
-ghost use Rattle.rest_key.specs.Left.{few_words, field_words, fields_words, detail_parts};
+ghost use Rattle.rest_key.specs.WordsLeft.{few_words, field_words, fields_words, detail_parts};
 
 use crate::few::Few;
 use crate::items::{
-    Field, numbers, one, parts, runs, tasks, term, term_and_flag, terms, three, used,
+    Field, linear_terms, numbers, one, runs, tasks, term, term_and_flag, terms, three, used,
 };
 use fzn_model::{Base, Con, CumTask, Lin, Rel, Term};
 
-/// Which parts of a constraint are words: all, or those that a weaker constraint of its kind has as well.
+/// Which parts of a constraint are words: all, or those that the far digest takes.
 #[derive(Clone, Copy)]
 pub(crate) enum Detail {
     All,
@@ -47,6 +47,7 @@ impl<'a> Fields<'a> {
     }
 }
 
+/// The number of a relation.
 fn rel_number(rel: Rel) -> i128
     ensures { result ≡ rel_number rel }
 {
@@ -73,7 +74,7 @@ fn base_fields(base: &Base) -> (Field<'_>, Field<'_>)
     ensures { field_words result.0 ++ field_words result.1 ≡ base_parts base.now }
 {
     match base {
-        Base::Lin(lin) => (parts(lin.terms.as_slice()), one(lin.r)),
+        Base::Lin(lin) => (linear_terms(lin.terms.as_slice()), one(lin.r)),
         Base::Clause(clause) => (terms(clause.pos.as_slice()), terms(clause.neg.as_slice())),
         Base::Member(member) => (term(member.x), runs(member.set.runs.as_slice())),
     }
@@ -128,7 +129,7 @@ fn all_fields(con: &Con) -> (Few, Fields<'_>)
 fn far_lin(lin: &Lin) -> Fields<'_>
     ensures { fields_words result ≡ far_lin lin.now.rel lin.now }
 {
-    let sum = parts(lin.terms.as_slice());
+    let sum = linear_terms(lin.terms.as_slice());
     match lin.rel {
         Rel::Le => Fields::One(sum),
         Rel::Eq | Rel::Ne => Fields::Two(sum, one(lin.r)),
@@ -168,7 +169,14 @@ fn far_fields(con: &Con) -> (Few, Fields<'_>)
             far_cumulative(list.as_slice(), *capacity),
         ),
         Con::Table(xs, _) => (Few::One(16), Fields::One(terms(xs.as_slice()))),
-        _ => all_fields(con),
+        Con::Reif(_, _, _)
+        | Con::Times(_, _, _)
+        | Con::Abs(_, _)
+        | Con::Div(_, _, _)
+        | Con::Mod(_, _, _)
+        | Con::Greatest(_, _)
+        | Con::Least(_, _)
+        | Con::Element(_, _, _) => all_fields(con),
     }
 }
 

@@ -1,7 +1,7 @@
 ghost use Rattle.std.specs.Prelude.{◌≡◌, ◌++◌, ◌∷◌, [], MatchOption, pos};
-ghost use Rattle.rest_key.specs.Words.{list_words, number_words, term_words, run_words, part_words, task_words, used_words, cost_words};
+ghost use Rattle.rest_key.specs.Words.{list_words, number_words, term_words, run_words, linear_term_words, task_words, used_words, cost_words};
 ghost use Rattle.fzn_model.specs.Meaning.{bit};
-ghost use Rattle.rest_key.specs.Left.{few_words, items_words, field_words};
+ghost use Rattle.rest_key.specs.WordsLeft.{few_words, items_words, field_words};
 
 use crate::few::{Few, of_three, pair};
 use fzn_model::{CumTask, Term, Used};
@@ -11,7 +11,7 @@ use fzn_model::{CumTask, Term, Used};
 pub(crate) enum Items<'a> {
     Done,
     Runs(&'a [(i64, i64)]),
-    Parts(&'a [(i64, Term)]),
+    LinearTerms(&'a [(i64, Term)]),
     Terms(&'a [Term]),
     Numbers(&'a [i64]),
     Tasks(&'a [CumTask]),
@@ -41,13 +41,13 @@ pub(crate) fn first<'a>(items: Items<'a>) -> Option<Field<'a>>
                 items: Items::Runs(others),
             })
         }
-        Items::Parts(parts) => {
-            let (part, others) = parts.split_first()?;
-            let (second, third) = pair(part.1);
+        Items::LinearTerms(terms) => {
+            let (term, others) = terms.split_first()?;
+            let (second, third) = pair(term.1);
             Some(Field {
-                word: i128::from(part.0),
+                word: i128::from(term.0),
                 few: Few::Two(second, third),
-                items: Items::Parts(others),
+                items: Items::LinearTerms(others),
             })
         }
         Items::Terms(terms) => {
@@ -77,18 +77,18 @@ pub(crate) fn first<'a>(items: Items<'a>) -> Option<Field<'a>>
             })
         }
         Items::Used(used) => {
-            let (part, others) = used.split_first()?;
+            let (amount, others) = used.split_first()?;
             Some(Field {
-                word: i128::from(part.from),
-                few: Few::Two(i128::from(part.to), part.amount),
+                word: i128::from(amount.from),
+                few: Few::Two(i128::from(amount.to), amount.amount),
                 items: Items::Used(others),
             })
         }
         Items::Cost(cost) => {
-            let (part, others) = cost.split_first()?;
+            let (term, others) = cost.split_first()?;
             Some(Field {
-                word: i128::from(part.0),
-                few: Few::One(i128::from(part.1)),
+                word: i128::from(term.0),
+                few: Few::One(i128::from(term.1)),
                 items: Items::Cost(others),
             })
         }
@@ -155,11 +155,11 @@ pub(crate) fn runs(runs: &[(i64, i64)]) -> Field<'_>
     listed(runs.len(), Items::Runs(runs))
 }
 
-/// The parts of a sum.
-pub(crate) fn parts(parts: &[(i64, Term)]) -> Field<'_>
-    ensures { field_words result ≡ list_words part_words parts.now }
+/// The terms of a sum, each with its coefficient.
+pub(crate) fn linear_terms(terms: &[(i64, Term)]) -> Field<'_>
+    ensures { field_words result ≡ list_words linear_term_words terms.now }
 {
-    listed(parts.len(), Items::Parts(parts))
+    listed(terms.len(), Items::LinearTerms(terms))
 }
 
 /// A list of terms.

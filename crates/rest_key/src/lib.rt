@@ -1,17 +1,18 @@
 //! Dominance of residual problems, and their words and digests.
 //!
 //! What it is for: a cache of residual problems. One that was solved before answers for another that has the same words,
-//! and bounds the cost of each that it dominates. The two digests find candidates: `near` those with the same words, `far`
-//! those that may dominate.
+//! and bounds the cost of each that it dominates. The two digests find candidates. Problems with the same words have the
+//! same `near`. Two of which the one dominates the other mostly have the same `far`, but need not: `far` also takes the
+//! labels and the number of constraints, and the one that dominates may have fewer.
 //!
 //! What contracts see: a residual problem as the record of its parts, as in fzn_model; [`RestWords`] as the list of the
 //! words that are left.
 //!
 //! What it promises: [`weaker`] is exactly `Weaker` (`specs/Weaker.antt`), kind by kind, and [`dominates`] exactly
 //! `Dominates` (`specs/Dominance.antt`). [`words`] are the words of `specs/Words.antt`, [`count`] is how many there are,
-//! and [`near`] and [`far`] are FNV-1a digests (`specs/Digest.antt`) of all of them and of those that dominance leaves
-//! alone. The laws: a weaker constraint holds wherever the other does; a dominating problem includes the other;
-//! problems with the same words are the same.
+//! and [`near`] and [`far`] are FNV-1a digests (`specs/Digest.antt`) of all of them, and of all but the domains and those
+//! parts of constraints that a weaker one may differ in. The laws: a weaker constraint holds wherever the other does; a
+//! dominating problem includes the other; problems with the same words are the same.
 //!
 //! What it costs: no call takes memory. Words and digests take a step a word, `count` one for each domain and constraint.
 //! `weaker` and `dominates` take about a step a word and a binary search for each run, label and used amount. Literals,

@@ -1,7 +1,7 @@
 ghost use Rattle.std.specs.Prelude.{◌≡◌, ◌++◌, ◌∷◌, [], MatchOption, pos, length};
 ghost use Rattle.std.specs.Iterator.{YieldsFirst, item_count};
 ghost use Rattle.rest_key.specs.Words.{words_of, far_words, list_words, set_words, cost_words, labelled};
-ghost use Rattle.rest_key.specs.Left.{field_words, detail_parts};
+ghost use Rattle.rest_key.specs.WordsLeft.{field_words, detail_parts};
 ghost use Rattle.std.specs.List.{flat_map};
 
 use crate::few::Few;
@@ -23,7 +23,7 @@ struct Ahead<'a> {
 
 impl<'a> std::marker::Model for Ahead<'a> {
     ghost use Rattle.std.specs.Prelude.{List, ℤ, ◌++◌};
-    ghost use Rattle.rest_key.specs.Left.{fields_words, cost_left, count_left, detail_parts};
+    ghost use Rattle.rest_key.specs.WordsLeft.{fields_words, cost_left, count_left, detail_parts};
     ghost use Rattle.rest_key.specs.Words.{set_words, labelled};
     ghost use Rattle.std.specs.List.{flat_map};
 
@@ -43,7 +43,7 @@ pub struct RestWords<'a> {
 
 impl<'a> std::marker::Model for RestWords<'a> {
     ghost use Rattle.std.specs.Prelude.{List, ℤ, ◌++◌};
-    ghost use Rattle.rest_key.specs.Left.{few_words, items_words};
+    ghost use Rattle.rest_key.specs.WordsLeft.{few_words, items_words};
 
     ghost Value = { List ℤ };
 
@@ -79,7 +79,7 @@ pub fn words(rest: &Rest) -> RestWords<'_>
     begin(rest, rest.doms.as_slice(), Detail::All)
 }
 
-/// The words that a problem which this one dominates has as well.
+/// The words that the far digest takes, in order.
 #[tactic(auto, unfolding(crate::specs::Words::far_words))]
 pub(crate) fn far_words(rest: &Rest) -> RestWords<'_>
     ensures { result ≡ far_words rest.now }

@@ -3,22 +3,22 @@ ghost use Rattle.std.specs.Prelude.{◌≡◌, ◌↔◌, IsTrue};
 use fzn_model::{Base, Clause, CumTask, Lin, Member, Term};
 
 /// Whether the terms are the same.
-#[tactic(auto, using(crate::proofs::Equal::terms_decide))]
+#[tactic(auto, using(crate::proofs::EqualParts::terms_decide))]
 pub(crate) fn same_terms(terms: &[Term], others: &[Term]) -> bool
     ensures { IsTrue result ↔ (terms.now ≡ others.now) }
 {
     terms == others
 }
 
-/// Whether the parts of two sums are the same.
-pub(crate) fn same_parts(parts: &[(i64, Term)], others: &[(i64, Term)]) -> bool
-    ensures { IsTrue result ↔ (parts.now ≡ others.now) }
+/// Whether the terms of two sums are the same, each with its coefficient.
+pub(crate) fn same_linear_terms(terms: &[(i64, Term)], others: &[(i64, Term)]) -> bool
+    ensures { IsTrue result ↔ (terms.now ≡ others.now) }
 {
-    parts == others
+    terms == others
 }
 
 /// Whether the tasks are the same.
-#[tactic(auto, using(crate::proofs::Equal::tasks_decide))]
+#[tactic(auto, using(crate::proofs::EqualParts::tasks_decide))]
 pub(crate) fn same_tasks(tasks: &[CumTask], others: &[CumTask]) -> bool
     ensures { IsTrue result ↔ (tasks.now ≡ others.now) }
 {
@@ -46,16 +46,18 @@ pub(crate) fn same_row(row: &[i64], other: &[i64]) -> bool
     row == other
 }
 
-#[tactic(auto, using(crate::proofs::Equal::lins_same))]
+/// Whether the linear relations are the same.
+#[tactic(auto, using(crate::proofs::EqualParts::lins_same))]
 fn same_lin(lin: &Lin, other: &Lin) -> bool
     ensures { IsTrue result ↔ (lin.now ≡ other.now) }
 {
     lin.rel == other.rel
-        && same_parts(lin.terms.as_slice(), other.terms.as_slice())
+        && same_linear_terms(lin.terms.as_slice(), other.terms.as_slice())
         && lin.r == other.r
 }
 
-#[tactic(auto, using(crate::proofs::Equal::clauses_same))]
+/// Whether the clauses are the same.
+#[tactic(auto, using(crate::proofs::EqualParts::clauses_same))]
 fn same_clause(clause: &Clause, other: &Clause) -> bool
     ensures { IsTrue result ↔ (clause.now ≡ other.now) }
 {
@@ -63,7 +65,8 @@ fn same_clause(clause: &Clause, other: &Clause) -> bool
         && same_terms(clause.neg.as_slice(), other.neg.as_slice())
 }
 
-#[tactic(auto, using(crate::proofs::Equal::members_same))]
+/// Whether the members are the same.
+#[tactic(auto, using(crate::proofs::EqualParts::members_same))]
 fn same_member(member: &Member, other: &Member) -> bool
     ensures { IsTrue result ↔ (member.now ≡ other.now) }
 {

@@ -1,8 +1,8 @@
 ghost use Rattle.std.specs.Prelude.{◌≡◌, ◌↔◌, ◌*◌, ◌^◌, ◌≤◌, ◌≤ℤ◌, ◌-◌, ◌<◌, ◌&&◌, if◌then◌else◌, IsTrue, length, slice_index_or, pos, int_le, int_lt, unsigned_abs};
 ghost use Rattle.fzn_model.specs.Meaning.{amount_at};
-ghost use Rattle.fzn_model.specs.Kept.{IsValue, UsedKept, of_call};
+ghost use Rattle.fzn_model.specs.Limits.{IsValue, UsedInLimits, of_call};
 ghost use Rattle.rest_key.specs.Weaker.{LeavesAsMuch, UsesNoMore};
-ghost use Rattle.rest_key.specs.Parts.{AreApart, TellsApart, IsFirstAfter, excess_at, StaysBelow, BeginsBelow, EndsBelow};
+ghost use Rattle.rest_key.specs.PartTests.{AreApart, TellsApart, IsFirstAfter, excess_at, StaysBelow, BeginsBelow, EndsBelow};
 
 use fzn_model::Used;
 
@@ -21,9 +21,9 @@ fn part_at(part: &Used, moment: i64) -> i128
 }
 
 /// The sum of all that is used at a moment.
-#[tactic(auto, using(crate::proofs::Amounts::amount_drop))]
+#[tactic(auto, using(fzn_model::proofs::Moments::amount_drop))]
 fn sum_at(used: &[Used], moment: i64) -> i128
-    requires { UsedKept of_call used.now }
+    requires { UsedInLimits of_call used.now }
     ensures value { result ≡ amount_at used.now moment }
     ensures low { pos 0 ≤ℤ result }
     ensures high { result ≤ℤ pos (8000000 * 2 ^ 100) }
@@ -46,7 +46,7 @@ fn follows(used: &[Used], place: usize) -> bool
 }
 
 /// Whether the amounts rise and don't overlap.
-#[tactic(auto, unfolding(crate::specs::Parts::TellsApart))]
+#[tactic(auto, unfolding(crate::specs::PartTests::TellsApart))]
 fn are_apart(used: &[Used]) -> bool
     ensures { TellsApart result used.now }
 {
@@ -86,7 +86,7 @@ fn first_after(used: &[Used], moment: &i64) -> usize
 /// What is used at a moment, of amounts that don't overlap: at most one of them is.
 #[tactic(auto, using(crate::proofs::Amounts::one_at, crate::proofs::Amounts::none_at))]
 fn one_at(used: &[Used], moment: i64) -> i128
-    requires kept { UsedKept of_call used.now }
+    requires kept { UsedInLimits of_call used.now }
     requires apart { AreApart used.now }
     ensures value { result ≡ amount_at used.now moment }
     ensures low { pos 0 ≤ℤ result }
@@ -100,9 +100,9 @@ fn one_at(used: &[Used], moment: i64) -> i128
 }
 
 /// What is used at a moment. As many steps as there are amounts, or the logarithm where these are apart.
-#[tactic(auto, unfolding(crate::specs::Parts::TellsApart))]
+#[tactic(auto, unfolding(crate::specs::PartTests::TellsApart))]
 fn amount_at(used: &[Used], apart: bool, moment: i64) -> i128
-    requires kept { UsedKept of_call used.now }
+    requires kept { UsedInLimits of_call used.now }
     requires apart { TellsApart apart used.now }
     ensures value { result ≡ amount_at used.now moment }
     ensures low { pos 0 ≤ℤ result }
@@ -117,8 +117,8 @@ fn amount_at(used: &[Used], apart: bool, moment: i64) -> i128
 
 /// What is used of the first amounts over what is used of the second. The flags tell whether each are apart.
 fn excess_at(used: &[Used], apart: bool, other: &[Used], other_apart: bool, moment: i64) -> i128
-    requires used { UsedKept of_call used.now }
-    requires other { UsedKept of_call other.now }
+    requires used { UsedInLimits of_call used.now }
+    requires other { UsedInLimits of_call other.now }
     requires apart { TellsApart apart used.now }
     requires other_apart { TellsApart other_apart other.now }
     ensures { result ≡ excess_at used.now other.now moment }
@@ -135,8 +135,8 @@ fn is_below_at(
     room: &i128,
     moment: &i64,
 ) -> bool
-    requires used { UsedKept of_call used.now }
-    requires other { UsedKept of_call other.now }
+    requires used { UsedInLimits of_call used.now }
+    requires other { UsedInLimits of_call other.now }
     requires apart { TellsApart apart used.now }
     requires other_apart { TellsApart other_apart other.now }
     ensures { IsTrue result ↔ (excess_at used.now other.now moment.now ≤ℤ room.now) }
@@ -145,10 +145,10 @@ fn is_below_at(
 }
 
 /// Whether it is wherever one of the first amounts begins.
-#[tactic(auto, unfolding(crate::specs::Parts::BeginsBelow))]
+#[tactic(auto, unfolding(crate::specs::PartTests::BeginsBelow))]
 fn begins_below(used: &[Used], apart: bool, other: &[Used], other_apart: bool, room: &i128) -> bool
-    requires used { UsedKept of_call used.now }
-    requires other { UsedKept of_call other.now }
+    requires used { UsedInLimits of_call used.now }
+    requires other { UsedInLimits of_call other.now }
     requires apart { TellsApart apart used.now }
     requires other_apart { TellsApart other_apart other.now }
     ensures { IsTrue result ↔ BeginsBelow used.now other.now room.now }
@@ -162,10 +162,10 @@ fn begins_below(used: &[Used], apart: bool, other: &[Used], other_apart: bool, r
 }
 
 /// Whether it is wherever one of the second amounts ends.
-#[tactic(auto, unfolding(crate::specs::Parts::EndsBelow))]
+#[tactic(auto, unfolding(crate::specs::PartTests::EndsBelow))]
 fn ends_below(used: &[Used], apart: bool, other: &[Used], other_apart: bool, room: &i128) -> bool
-    requires used { UsedKept of_call used.now }
-    requires other { UsedKept of_call other.now }
+    requires used { UsedInLimits of_call used.now }
+    requires other { UsedInLimits of_call other.now }
     requires apart { TellsApart apart used.now }
     requires other_apart { TellsApart other_apart other.now }
     ensures { IsTrue result ↔ EndsBelow used.now other.now room.now }
@@ -183,8 +183,8 @@ fn ends_below(used: &[Used], apart: bool, other: &[Used], other_apart: bool, roo
 /// amount in lists that are apart; else as many steps as there are pairs of amounts.
 #[tactic(auto, using(crate::proofs::Amounts::stays_below, crate::proofs::Amounts::below_begins, crate::proofs::Amounts::below_ends, crate::proofs::Amounts::below_room))]
 fn stays_below(used: &[Used], other: &[Used], room: i128) -> bool
-    requires used { UsedKept of_call used.now }
-    requires other { UsedKept of_call other.now }
+    requires used { UsedInLimits of_call used.now }
+    requires other { UsedInLimits of_call other.now }
     ensures { IsTrue result ↔ StaysBelow used.now other.now room }
 {
     let apart = are_apart(used);
@@ -202,8 +202,8 @@ pub(crate) fn leaves_as_much(
     other_capacity: i64,
     other_used: &[Used],
 ) -> bool
-    requires used { UsedKept of_call used.now }
-    requires other_used { UsedKept of_call other_used.now }
+    requires used { UsedInLimits of_call used.now }
+    requires other_used { UsedInLimits of_call other_used.now }
     requires capacity { IsValue capacity }
     requires other_capacity { IsValue other_capacity }
     ensures { IsTrue result ↔ LeavesAsMuch capacity used.now other_capacity other_used.now }
@@ -214,8 +214,8 @@ pub(crate) fn leaves_as_much(
 /// Whether at each moment no more is used of the first than of the second.
 #[tactic(auto, using(crate::proofs::Amounts::no_more_stays, crate::proofs::Amounts::stays_no_more))]
 pub(crate) fn uses_no_more(used: &[Used], other: &[Used]) -> bool
-    requires used { UsedKept of_call used.now }
-    requires other { UsedKept of_call other.now }
+    requires used { UsedInLimits of_call used.now }
+    requires other { UsedInLimits of_call other.now }
     ensures { IsTrue result ↔ UsesNoMore used.now other.now }
 {
     stays_below(used, other, 0)

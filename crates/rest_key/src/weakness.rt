@@ -1,11 +1,11 @@
 ghost use Rattle.std.specs.Prelude.{◌↔◌, ◌≡◌, IsTrue};
 ghost use Rattle.rest_key.specs.Weaker.{WeakerLin, WeakerBase, WeakerCapacity, Weaker};
 ghost use Rattle.rest_key.specs.Comparing.{CanCompare, CapacityKept};
-ghost use Rattle.fzn_model.specs.Kept.{UsedKept, of_call};
+ghost use Rattle.fzn_model.specs.Limits.{UsedInLimits, of_call};
 
 use crate::among::{are_numbers_among, are_terms_among};
 use crate::rows::are_rows_within;
-use crate::same::{same_base, same_parts, same_tasks, same_terms};
+use crate::same::{same_base, same_linear_terms, same_tasks, same_terms};
 use crate::sets::is_set_within;
 use crate::used::{leaves_as_much, uses_no_more};
 use fzn_model::{Base, Con, Lin, Rel, Term, Used};
@@ -16,10 +16,10 @@ fn is_lin_weaker(lin: &Lin, other: &Lin) -> bool
 {
     match (lin.rel, other.rel) {
         (Rel::Le, Rel::Le) => {
-            same_parts(lin.terms.as_slice(), other.terms.as_slice()) && other.r <= lin.r
+            same_linear_terms(lin.terms.as_slice(), other.terms.as_slice()) && other.r <= lin.r
         }
         (Rel::Eq, Rel::Eq) | (Rel::Ne, Rel::Ne) => {
-            same_parts(lin.terms.as_slice(), other.terms.as_slice()) && other.r == lin.r
+            same_linear_terms(lin.terms.as_slice(), other.terms.as_slice()) && other.r == lin.r
         }
         _ => false,
     }
@@ -49,8 +49,8 @@ fn is_capacity_weaker(
     other_used: &[Used],
     other_capacity: Term,
 ) -> bool
-    requires used { UsedKept of_call used.now }
-    requires other_used { UsedKept of_call other_used.now }
+    requires used { UsedInLimits of_call used.now }
+    requires other_used { UsedInLimits of_call other_used.now }
     requires capacity { CapacityKept capacity }
     requires other_capacity { CapacityKept other_capacity }
     ensures { IsTrue result ↔ WeakerCapacity used.now capacity other_used.now other_capacity }
@@ -63,8 +63,8 @@ fn is_capacity_weaker(
     }
 }
 
-/// Whether the first constraint is weaker than the second: of the same kind, it says the same or less, part by part, so
-/// it holds wherever the second does. A linear relation Le has the same terms and no lesser number; a clause has all
+/// Whether the first constraint is weaker than the second: it is of the same kind, and part by part equal or less strict,
+/// so it holds wherever the second does. A linear relation Le has the same terms and no lesser number; a clause has all
 /// literals of the other; a member has the same term and a set that has the other's; an all-different has the same
 /// terms and no other taken values; a cumulative has the same tasks and at each moment as much left of a constant
 /// capacity, or the same variable and no more used; a table has the same columns and all rows of the other. Constraints

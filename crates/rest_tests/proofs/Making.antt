@@ -1,27 +1,13 @@
--- What a store made of a model is to the model.
-use Rattle.std.proofs.Common.{◌≡◌, ℕ, zero, suc, ◌<◌, ◌⊎◌, inl, inr, List, [], ◌∷◌, ◌++◌, length, get_or, refl, sym, ap, subst, ◌∙◌, arith, ℤ, pos}
+-- A store made of a model lies within the model's domains.
+use Rattle.std.proofs.Common.{◌≡◌, ℕ, zero, suc, ◌⊎◌, inl, inr, List, [], ◌∷◌, ◌++◌, length, get_or, refl, sym, ap, subst, ◌∙◌, arith, ℤ, pos}
 use Rattle.std.specs.Prelude.{All, Contains, Option, IsSome}
 use Rattle.std.proofs.Math.ListN.{get_or-map}
 use Rattle.fzn_model.specs.Sets.{IsIn, IsWithin}
 use Rattle.fzn_model.specs.Parts.{Parts}
 use Rattle.int_domain.specs.Values.{values_of, range}
 use Rattle.int_domain.proofs.Members.{Has, has_from_contains, has_range}
-use Rattle.dom_store.specs.Stores.{HasEmpty}
 use Rattle.dom_store.specs.Views.{box_of, box_count}
 use Rattle.rest_global.specs.Projection.{LiesWithin}
-
--- no domain is empty
-not_empty : (d : List (ℤ × ℤ)) → (d ≡ [] → ⊥) → 0 < length d
-not_empty [] some = absurd (some refl)
-not_empty (run ∷ runs) some = omega arith
-
-pub none_empty : (ds : List (List (ℤ × ℤ))) → (HasEmpty ds → ⊥) → All (λ d. 0 < length d) ds
-none_empty ds full k d h = not_empty (get_or ds k d) (λ e. full (k, get_or ds k d, h, get_or_same ds k d h, e))
-  where
-    get_or_same : (xs : List (List (ℤ × ℤ))) (k : ℕ) (d : List (ℤ × ℤ)) → k < length xs → get_or xs k (get_or xs k d) ≡ get_or xs k d
-    get_or_same [] k d h = absurd (omega (arith, h))
-    get_or_same (x ∷ xs) zero d h = refl
-    get_or_same (x ∷ xs) (suc k) d h = get_or_same xs k d (omega (arith, h))
 
 -- the values of a set are in it
 either : (v : ℤ) (xs ys : List ℤ) → Has v (xs ++ ys) → Has v xs ⊎ Has v ys

@@ -8,7 +8,7 @@ use std::process::Abort;
 use std::test::Fail;
 
 /// The projection of all domains of a model, with its greatest bound.
-#[tactic(auto, using(crate::proofs::Making::none_empty, crate::proofs::Making::lies_within))]
+#[tactic(auto, using(dom_store::proofs::Made::none_empty, crate::proofs::Making::lies_within))]
 fn project_all(alloc: Global, model: &Model, limit: u32) -> Result<Projected, Fail> {
     let Some(store) = Store::new(alloc, model)? else {
         return Err("a domain is empty")?;
@@ -240,7 +240,7 @@ fn compare(
 }
 
 /// Whether the first constraint of the one is weaker than that of the other.
-#[tactic(auto, using(rest_key::specs::Comparing::can_compare))]
+#[tactic(auto, using(rest_key::proofs::Comparable::can_compare))]
 fn is_weaker(first: &Rest, second: &Rest) -> bool {
     let cons = first.cons.as_slice();
     let others = second.cons.as_slice();

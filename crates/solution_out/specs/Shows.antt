@@ -1,6 +1,6 @@
 -- What is printed for an answer (FlatZinc specification, "Output": a line for each output, `----------` after a solution,
--- `==========` after a complete search, `=====UNSATISFIABLE=====`, `=====UNKNOWN=====`). The line that says why a
--- problem is undecided is this project's own.
+-- `==========` after a complete search, `=====UNSATISFIABLE=====`, `=====UNKNOWN=====`). This project's own are the line
+-- that says why a problem is undecided, one solution without `==========` where any will do, and the spaces within arrays.
 use Rattle.std.specs.Prelude.{ℕ, List, [], ◌∷◌, ◌++◌, Bool, true, false, if◌then◌else◌, ℤ, pos, codes, decimal, length, slice_index_or, Some, None}
 use Rattle.std.specs.Fmt.{signed_decimal}
 use Rattle.std.specs.List.{flat_map, join_by}

@@ -1,6 +1,6 @@
 ghost use Rattle.std.specs.Prelude.{◌++◌, All, codes, length};
 ghost use Rattle.cs_base.specs.Causes.{HasCause, AppendsPart};
-ghost use Rattle.fzn_model.specs.Kept.{OutKept};
+ghost use Rattle.fzn_model.specs.Limits.{OutInLimits};
 ghost use Rattle.incumbent_board.specs.Right.{AnswerFits};
 ghost use Rattle.solution_out.specs.Shows.{solution_text, reason_text, shows};
 ghost use Rattle.solution_out.specs.Writes.{Wrote};
@@ -14,7 +14,7 @@ use incumbent_board::{Answer, Why};
 /// Appends a solution.
 #[tactic(auto, unfolding(crate::specs::Shows::solution_text), using(crate::proofs::Writing::wrote_then, crate::proofs::Writing::wrote_part))]
 fn put_solution<O: Sink>(out: &mut O, outs: &[Out], values: &[i64]) -> Result<(), Failed>
-    requires { All (OutKept (length values.now)) outs.now }
+    requires { All (OutInLimits (length values.now)) outs.now }
     ensures text { Wrote (O.written out.old) (O.written out.new) (solution_text outs.now values.now) result }
     ensures cause { HasCause (O.faults out.old) (O.faults out.new) result }
 {
@@ -37,7 +37,7 @@ fn put_reason<O: Sink>(out: &mut O, why: Why) -> Result<(), Failed>
 /// Appends a best solution.
 #[tactic(auto, using(crate::proofs::Writing::wrote_then, crate::proofs::Writing::wrote_part))]
 fn put_best<O: Sink>(out: &mut O, outs: &[Out], values: &[i64]) -> Result<(), Failed>
-    requires { All (OutKept (length values.now)) outs.now }
+    requires { All (OutInLimits (length values.now)) outs.now }
     ensures text { Wrote (O.written out.old) (O.written out.new) (solution_text outs.now values.now ++ codes "==========\n") result }
     ensures cause { HasCause (O.faults out.old) (O.faults out.new) result }
 {
@@ -58,7 +58,7 @@ fn put_unknown<O: Sink>(out: &mut O, why: Why) -> Result<(), Failed>
 /// Appends a solution, and why it isn't known to be best.
 #[tactic(auto, using(crate::proofs::Writing::wrote_then, crate::proofs::Writing::wrote_part))]
 fn put_stopped<O: Sink>(out: &mut O, outs: &[Out], values: &[i64], why: Why) -> Result<(), Failed>
-    requires { All (OutKept (length values.now)) outs.now }
+    requires { All (OutInLimits (length values.now)) outs.now }
     ensures text { Wrote (O.written out.old) (O.written out.new) (solution_text outs.now values.now ++ reason_text why) result }
     ensures cause { HasCause (O.faults out.old) (O.faults out.new) result }
 {

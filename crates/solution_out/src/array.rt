@@ -1,6 +1,6 @@
 ghost use Rattle.std.specs.Prelude.{All, length};
 ghost use Rattle.cs_base.specs.Causes.{HasCause};
-ghost use Rattle.fzn_model.specs.Kept.{TermIn};
+ghost use Rattle.fzn_model.specs.Limits.{TermIn};
 ghost use Rattle.solution_out.specs.Shows.{range_text, range_argument, ranges_text, array_head, array_text};
 ghost use Rattle.solution_out.specs.Writes.{Wrote};
 

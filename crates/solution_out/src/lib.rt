@@ -21,8 +21,6 @@ mod values;
 // What a caller uses.
 mod answers;
 mod refusals;
-#[cfg(test)]
-mod tests;
 
 pub use answers::write_answer;
 pub use refusals::write_refusal;

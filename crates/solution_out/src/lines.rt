@@ -1,6 +1,6 @@
 ghost use Rattle.std.specs.Prelude.{All, length};
 ghost use Rattle.cs_base.specs.Causes.{HasCause};
-ghost use Rattle.fzn_model.specs.Kept.{TermIn, IsShape, OutKept};
+ghost use Rattle.fzn_model.specs.Limits.{TermIn, IsShape, OutInLimits};
 ghost use Rattle.solution_out.specs.Shows.{output_text, line_text, line, lines};
 ghost use Rattle.solution_out.specs.Writes.{Wrote};
 
@@ -54,7 +54,7 @@ fn put_named<O: Sink>(
 /// Appends the line of an output.
 #[tactic(auto, unfolding(crate::specs::Shows::line))]
 fn put_line<O: Sink>(out: &mut O, values: &[i64], output: &Out) -> Result<(), Failed>
-    requires { OutKept (length values.now) output.now }
+    requires { OutInLimits (length values.now) output.now }
     ensures text { Wrote (O.written out.old) (O.written out.new) (line values.now output.now) result }
     ensures cause { HasCause (O.faults out.old) (O.faults out.new) result }
 {
@@ -71,7 +71,7 @@ fn put_line<O: Sink>(out: &mut O, values: &[i64], output: &Out) -> Result<(), Fa
 /// Appends the lines of all outputs.
 #[tactic(auto, unfolding(crate::specs::Shows::lines), using(crate::proofs::Writing::wrote_none, crate::proofs::Writing::each_more, crate::proofs::Writing::each_part, crate::proofs::Writing::each_all))]
 pub(crate) fn put_lines<O: Sink>(out: &mut O, values: &[i64], outs: &[Out]) -> Result<(), Failed>
-    requires { All (OutKept (length values.now)) outs.now }
+    requires { All (OutInLimits (length values.now)) outs.now }
     ensures text { Wrote (O.written out.old) (O.written out.new) (lines outs.now values.now) result }
     ensures cause { HasCause (O.faults out.old) (O.faults out.new) result }
 {

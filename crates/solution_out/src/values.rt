@@ -1,7 +1,7 @@
 ghost use Rattle.std.specs.Prelude.{◌++◌, All, codes, length};
 ghost use Rattle.std.specs.List.{flat_map};
 ghost use Rattle.cs_base.specs.Causes.{HasCause};
-ghost use Rattle.fzn_model.specs.Kept.{TermIn};
+ghost use Rattle.fzn_model.specs.Limits.{TermIn};
 ghost use Rattle.solution_out.specs.Shows.{value_text, term_text, next_text, values_text};
 ghost use Rattle.solution_out.specs.Writes.{Wrote};
 

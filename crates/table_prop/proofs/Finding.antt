@@ -15,7 +15,7 @@ use Rattle.fzn_model.specs.Meaning.{val, IsRow, HasRow}
 use Rattle.fzn_model.specs.Boxes.{InBox}
 use Rattle.fzn_model.specs.Bounds.{TermHas}
 use Rattle.dom_store.specs.Strength.{entry}
-use Rattle.fzn_model.specs.Terms.{val_has}
+use Rattle.fzn_model.proofs.Terms.{val_has}
 use Rattle.table_prop.specs.Rows.{IsReady, CanHaveRow, IsNumber, IsPossible, ArePossible, IsRowAt, AreChosen, IsEntry, IsAdded, AreEntries}
 use Rattle.dom_store.proofs.Stepping.{Box}
 

@@ -2,14 +2,14 @@
 use Rattle.std.specs.Prelude.{◌≡◌, ℕ, ◌/◌, ◌<◌, ◌⊎◌, List, length, slice_index_or, ℤ, pos, All, Contains}
 use Rattle.fzn_model.specs.declared.term.Term.{Term}
 use Rattle.fzn_model.specs.Meaning.{val, HasRow}
-use Rattle.fzn_model.specs.Kept.{TermIn}
+use Rattle.fzn_model.specs.Limits.{TermIn}
 use Rattle.fzn_model.specs.Boxes.{IsBox, InBox}
 use Rattle.fzn_model.specs.Bounds.{TermHas, IsLookedAt}
 use Rattle.dom_store.specs.Strength.{entry}
 
 -- a box with the columns of a table, of which there are some
 pub record IsReady (box : List (List ℤ)) (xs : List Term) : Type 0 where
-  pub sound : IsBox box
+  pub well_formed : IsBox box
   pub some : 0 < length xs
   pub columns : All (TermIn (length box)) xs
 

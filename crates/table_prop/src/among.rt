@@ -1,12 +1,12 @@
 //! Narrowings that leave a term values of a set.
 ghost use Rattle.std.specs.Prelude.{◌≡◌, ◌↔◌, ◌≤◌, ◌+◌, ◌+ℤ◌, pos, length, IsTrue, IfSome, IsNone, Contains};
-ghost use Rattle.fzn_model.specs.Kept.{TermIn, IsValue};
+ghost use Rattle.fzn_model.specs.Limits.{TermIn, IsValue};
 ghost use Rattle.fzn_model.specs.Boxes.{IsBox};
 ghost use Rattle.fzn_model.specs.Bounds.{term_low, term_high};
-ghost use Rattle.dom_store.specs.Steps.{Moves};
+ghost use Rattle.dom_store.specs.Steps.{NarrowsTerm};
 ghost use Rattle.table_prop.specs.Among.{HasNoNumber, IsFirst, IsLast, IsAmong, LowIsAmong, HighIsAmong, ValueIsAmong, ValuesAreAmong, EachIsAmong, AreAmong};
 
-use dom_store::{Passed, Store, can_have, cap_to, drop_one, greatest, least, raise_to};
+use dom_store::{Passed, Store, can_have, cut_above, cut_below, drop_value, greatest, least};
 use fzn_model::Term;
 use std::collections::BTreeSet;
 
@@ -37,38 +37,38 @@ fn has(values: &BTreeSet<i64>, value: &i64) -> bool
 }
 
 /// Raises the least value of a term to the least number of a set.
-fn raise_to_first(store: &mut Store, term: Term, values: &BTreeSet<i64>) -> Passed
+fn cut_below_first(store: &mut Store, term: Term, values: &BTreeSet<i64>) -> Passed
     requires term { TermIn (length store.old.box) term }
-    requires sound { IsBox store.old.box }
-    ensures { Moves (IsAmong values.now.keys) (LowIsAmong term values.now.keys) term store.old store.new result }
+    requires well_formed { IsBox store.old.box }
+    ensures { NarrowsTerm (IsAmong values.now.keys) (LowIsAmong term values.now.keys) term store.old store.new result }
 {
     match first_of(values) {
-        Some(first) => raise_to(store, term, first),
+        Some(first) => cut_below(store, term, first),
         None => Passed::Empty,
     }
 }
 
 /// Lowers the greatest value of a term to the greatest number of a set.
-fn cap_to_last(store: &mut Store, term: Term, values: &BTreeSet<i64>) -> Passed
+fn cut_above_last(store: &mut Store, term: Term, values: &BTreeSet<i64>) -> Passed
     requires term { TermIn (length store.old.box) term }
-    requires sound { IsBox store.old.box }
-    ensures { Moves (IsAmong values.now.keys) (HighIsAmong term values.now.keys) term store.old store.new result }
+    requires well_formed { IsBox store.old.box }
+    ensures { NarrowsTerm (IsAmong values.now.keys) (HighIsAmong term values.now.keys) term store.old store.new result }
 {
     match last_of(values) {
-        Some(last) => cap_to(store, term, last),
+        Some(last) => cut_above(store, term, last),
         None => Passed::Empty,
     }
 }
 
 /// Drops a value of a term that is not in a set.
-fn drop_value(store: &mut Store, term: Term, values: &BTreeSet<i64>, value: &i64) -> Passed
+fn drop_unlisted(store: &mut Store, term: Term, values: &BTreeSet<i64>, value: &i64) -> Passed
     requires { TermIn (length store.old.box) term }
-    ensures { Moves (IsAmong values.now.keys) (ValueIsAmong term values.now.keys value.now) term store.old store.new result }
+    ensures { NarrowsTerm (IsAmong values.now.keys) (ValueIsAmong term values.now.keys value.now) term store.old store.new result }
 {
     if !can_have(store, term, *value) || has(values, value) {
         return Passed::Done;
     }
-    drop_one(store, term, value)
+    drop_value(store, term, value)
 }
 
 /// The number that is so many above another.
@@ -89,13 +89,13 @@ fn drop_from(
     span: usize,
 ) -> Passed
     requires term { TermIn (length store.old.box) term }
-    requires sound { IsBox store.old.box }
+    requires well_formed { IsBox store.old.box }
     requires low { IsValue low.now }
     requires span { span ≤ 1024 }
-    ensures { Moves (IsAmong values.now.keys) (ValuesAreAmong term values.now.keys low.now (span + 1)) term store.old store.new result }
+    ensures { NarrowsTerm (IsAmong values.now.keys) (ValuesAreAmong term values.now.keys low.now (span + 1)) term store.old store.new result }
 {
     for step in 0..span + 1 {
-        match drop_value(store, term, values, &above(low, step)) {
+        match drop_unlisted(store, term, values, &above(low, step)) {
             Passed::Empty => return Passed::Empty,
             Passed::Done => {}
         }
@@ -114,7 +114,7 @@ fn span_of(store: &Store, term: Term) -> usize
 /// Drops each value of a term that is not in a set, unless the term is a variable without a bitmap.
 fn drop_others(store: &mut Store, term: Term, values: &BTreeSet<i64>) -> Passed
     requires { TermIn (length store.old.box) term }
-    ensures { Moves (IsAmong values.now.keys) (EachIsAmong term values.now.keys) term store.old store.new result }
+    ensures { NarrowsTerm (IsAmong values.now.keys) (EachIsAmong term values.now.keys) term store.old store.new result }
 {
     let low = least(store, term);
     let span = span_of(store, term);
@@ -125,16 +125,16 @@ fn drop_others(store: &mut Store, term: Term, values: &BTreeSet<i64>) -> Passed
 }
 
 /// Keeps the values of a term that are in a set: its bounds, and each of its values where it has a bitmap.
-pub(crate) fn keep_among(store: &mut Store, term: Term, values: &BTreeSet<i64>) -> Passed
+pub(crate) fn keep_listed(store: &mut Store, term: Term, values: &BTreeSet<i64>) -> Passed
     requires term { TermIn (length store.old.box) term }
-    requires sound { IsBox store.old.box }
-    ensures { Moves (IsAmong values.now.keys) (AreAmong term values.now.keys) term store.old store.new result }
+    requires well_formed { IsBox store.old.box }
+    ensures { NarrowsTerm (IsAmong values.now.keys) (AreAmong term values.now.keys) term store.old store.new result }
 {
-    match raise_to_first(store, term, values) {
+    match cut_below_first(store, term, values) {
         Passed::Empty => return Passed::Empty,
         Passed::Done => {}
     }
-    match cap_to_last(store, term, values) {
+    match cut_above_last(store, term, values) {
         Passed::Empty => return Passed::Empty,
         Passed::Done => {}
     }

@@ -1,6 +1,6 @@
 //! The rows whose entries are all in the domains of their columns.
 ghost use Rattle.std.specs.Prelude.{◌≡◌, ◌↔◌, ◌<◌, ◌/◌, length, All, IsTrue, IfOk, OnOk};
-ghost use Rattle.fzn_model.specs.Kept.{TermIn};
+ghost use Rattle.fzn_model.specs.Limits.{TermIn};
 ghost use Rattle.dom_store.specs.Strength.{entry};
 ghost use Rattle.table_prop.specs.Rows.{IsReady, CanHaveRow, ArePossible, AreEntries, IsNumber, IsAdded};
 

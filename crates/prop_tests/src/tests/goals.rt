@@ -29,7 +29,16 @@ fn goals_are_cut(rt: HostRuntime) -> Result<(), Fail> {
         let text = format!(in rt.alloc(); "var 1..3: x; {rest}")?;
         let domains = [*domain];
         let left = if *answer == Kept { &domains[..] } else { &[] };
-        fixes(&rt, rt.alloc(), text.as_str(), Some(*below), *answer, left)?;
+        let model = model_of(rt.alloc(), text.as_str())?;
+        fixes(
+            &rt,
+            rt.alloc(),
+            &model,
+            text.as_str(),
+            Some(*below),
+            *answer,
+            left,
+        )?;
     }
     Ok(())
 }
@@ -78,5 +87,6 @@ fn long_lists(rt: HostRuntime) -> Result<(), Fail> {
     let alloc = rt.alloc();
     let text = member_of(alloc, 1500)?;
     let left: [&[(i64, i64)]; 2] = [&[(101, 201)], &[(100, 200)]];
-    fixes(&rt, alloc, text.as_str(), None, Kept, &left)
+    let model = model_of(alloc, text.as_str())?;
+    fixes(&rt, alloc, &model, text.as_str(), None, Kept, &left)
 }

@@ -1,5 +1,5 @@
 ghost use Rattle.std.specs.Prelude.{◌≡◌, ◌<◌, IsTrue, All, length};
-ghost use Rattle.fzn_model.specs.Kept.{IsNear};
+ghost use Rattle.fzn_model.specs.Limits.{IsNear};
 
 use super::{fixed, model_of};
 use dom_store::Store;
@@ -160,11 +160,17 @@ fn fixes_right(
     })
 }
 
-/// Fails where fixing the text's model is not right by the list of its solutions.
-fn lists(rt: &impl Abort, alloc: Global, text: &str, below: i64, exact: usize) -> Result<(), Fail> {
-    let model = model_of(alloc, text)?;
-    let found = all_solutions(rt, alloc, &model, below)?;
-    let right = fixes_right(rt, alloc, &model, below, exact, found.as_slice())?;
+/// Fails where fixing the model of a text is not right by the list of its solutions.
+pub(crate) fn lists(
+    rt: &impl Abort,
+    alloc: Global,
+    model: &Model,
+    text: &str,
+    below: i64,
+    exact: usize,
+) -> Result<(), Fail> {
+    let found = all_solutions(rt, alloc, model, below)?;
+    let right = fixes_right(rt, alloc, model, below, exact, found.as_slice())?;
     assert!(rt; right, "{text}");
     Ok(())
 }
@@ -180,7 +186,8 @@ fn list_all(
     for vars in boxes {
         for con in cons {
             let text = format!(in alloc; "{vars} constraint {con}; solve satisfy;")?;
-            lists(rt, alloc, text.as_str(), 1, exact)?;
+            let model = model_of(alloc, text.as_str())?;
+            lists(rt, alloc, &model, text.as_str(), 1, exact)?;
         }
     }
     Ok(())
@@ -188,13 +195,13 @@ fn list_all(
 
 /// Numbers of both signs, and a bool that is open.
 #[rattlefmt::skip]
-static OPEN: [&str; 5] = [
+pub(crate) static OPEN: [&str; 5] = [
     "var -3..3: x; var -2..4: y; var bool: r;", "var -3..-1: x; var 0..2: y; var bool: r;", "var 1..2: x; var -3..3: y; var bool: r;",
     "var 2..2: x; var -1..-1: y; var bool: r;", "var -1..3: x; var 3..3: y; var bool: r;",
 ];
 
 /// Numbers with gaps, and a bool that is fixed.
-static GAPS: [&str; 4] = [
+pub(crate) static GAPS: [&str; 4] = [
     "var 1..2: x; var -3..3: y; var bool: r; constraint bool_eq(r,false);",
     "var -1..3: x; var 3..3: y; var bool: r; constraint bool_eq(r,true);",
     "var {-3,-1,0,2}: x; var {-2,1,3}: y; var bool: r; constraint bool_eq(r,false);",
@@ -228,7 +235,7 @@ fn numbers(rt: HostRuntime) -> Result<(), Fail> {
 
 /// Three bools, open or fixed.
 #[rattlefmt::skip]
-static BOOLS: [&str; 8] = [
+pub(crate) static BOOLS: [&str; 8] = [
     "var bool: x; var bool: y; var bool: r;",
     "var bool: x; var bool: y; var bool: r; constraint bool_eq(x,false);",
     "var bool: x; var bool: y; var bool: r; constraint bool_eq(x,true); constraint bool_eq(r,false);",
@@ -343,8 +350,9 @@ static GOALS: [&str; 3] = [
 #[test]
 fn bounds(rt: HostRuntime) -> Result<(), Fail> {
     for text in &GOALS {
+        let model = model_of(rt.alloc(), text)?;
         for below in -12..13 {
-            lists(&rt, rt.alloc(), text, below, 4)?;
+            lists(&rt, rt.alloc(), &model, text, below, 4)?;
         }
     }
     Ok(())

@@ -5,7 +5,7 @@ use prop_engine::Fixed::{Empty, Kept};
 use std::test::Fail;
 
 #[rattlefmt::skip]
-static ROWS: [Row; 58] = [
+static ROWS: [Row; 64] = [
     // `a` or not `b`; no literal, one that stands twice, and one that is left.
     ("var bool: a; var bool: b; constraint bool_clause([a],[b]); constraint bool_eq(b,true); solve satisfy;", Kept, &[&[(1, 1)], &[(1, 1)]]),
     ("var bool: a; var bool: b; constraint bool_clause([a],[b]); constraint bool_eq(a,false); solve satisfy;", Kept, &[&[(0, 0)], &[(0, 0)]]),
@@ -59,6 +59,13 @@ static ROWS: [Row; 58] = [
     ("var 1..7: x; var bool: r; constraint set_in_reif(x,{0,1,2,4,6,7,8,9},r); constraint bool_eq(r,false); solve satisfy;", Kept, &[&[(3, 3), (5, 5)], &[(0, 0)]]),
     ("var 6..9: x; var bool: r; constraint set_in_reif(x,{0,1,2,4,6,7,8,9},r); constraint bool_eq(r,false); solve satisfy;", Empty, &[]),
     ("var 4..9: x; var bool: r; constraint set_in_reif(x,{},r); solve satisfy;", Kept, &[&[(4, 9)], &[(0, 0)]]),
+    // Wide domains, of which bounds alone are kept; one that is narrow enough for gaps once its ends are gone.
+    ("var 4100..6000: x; var bool: r; constraint set_in_reif(x,4000..6000,r); solve satisfy;", Kept, &[&[(4100, 6000)], &[(1, 1)]]),
+    ("var 55..5000: x; var bool: r; constraint set_in_reif(x,{55,56,57,5000},r); solve satisfy;", Kept, &[&[(55, 5000)], &[(0, 1)]]),
+    ("var 61..3999: x; var bool: r; constraint set_in_reif(x,{50,60,4000,6000},r); solve satisfy;", Kept, &[&[(61, 3999)], &[(0, 0)]]),
+    ("var 0..5000: x; var bool: r; constraint set_in_reif(x,{0,1,2,3,50,60,4999,5000},r); constraint bool_eq(r,false); solve satisfy;", Kept, &[&[(4, 4998)], &[(0, 0)]]),
+    ("var -2..1026: x; var bool: r; constraint set_in_reif(x,{-2,-1,0,1,50,51,52},r); constraint bool_eq(r,false); solve satisfy;", Kept, &[&[(2, 1026)], &[(0, 0)]]),
+    ("var -2..1025: x; var bool: r; constraint set_in_reif(x,{-2,-1,0,1,50,51,52},r); constraint bool_eq(r,false); solve satisfy;", Kept, &[&[(2, 49), (53, 1025)], &[(0, 0)]]),
     ("var {1,2,5}: x; var bool: r; constraint set_in_reif(x,{0,1,2,5,6,7,8,9},r); solve satisfy;", Kept, &[&[(1, 2), (5, 5)], &[(1, 1)]]),
     ("var {1,2,5}: x; var bool: r; constraint set_in_reif(x,{-4,-3,-2,-1,0,3,4,6},r); solve satisfy;", Kept, &[&[(1, 2), (5, 5)], &[(0, 0)]]),
     ("var {1,2,5}: x; var bool: r; constraint set_in_reif(x,{0,1,5,6,7,8,9},r); solve satisfy;", Kept, &[&[(1, 2), (5, 5)], &[(0, 1)]]),

@@ -1,6 +1,6 @@
 use Rattle.alldiff_prop.specs.Untaken.{LowIsFree, BoundsAreFree}
 use Rattle.alldiff_prop.proofs.Freeing.{both_drop}
-use Rattle.alldiff_prop.proofs.Stepping.{step_done, step_end}
+use Rattle.dom_store.proofs.Stepping.{step_done, step_end}
 use Rattle.alldiff_prop.proofs.untaken.drop_bounds.Goals as goal
 
 pub returns-in-Empty : goal.returns-in-Empty

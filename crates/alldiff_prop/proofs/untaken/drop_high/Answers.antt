@@ -13,4 +13,4 @@ returns-then-not-has c =
 pub returns : goal.returns
 returns c =
     let plain : to_z w64 (of_z w64 c.greatest-high.result) ≡ c.greatest-high.result = omega (arith, ints) in
-    high_drops _ _ _ c.greatest-high.result _ _ _ c.requires.ready c.requires.member c.greatest-high.ensures.value ((rw plain at c.has.ensures).0 c.if-not-has.false) (rw plain at c.drop_value.ensures)
+    high_drops _ _ _ c.greatest-high.result _ _ _ c.requires.ready c.requires.member c.greatest-high.ensures.value ((rw plain at c.has.ensures).0 c.if-not-has.false) (rw plain at c.drop_value.ensures.narrows)

@@ -13,4 +13,4 @@ returns-then-not-has c =
 pub returns : goal.returns
 returns c =
     let plain : to_z w64 (of_z w64 c.least-low.result) ≡ c.least-low.result = omega (arith, ints) in
-    low_drops _ _ _ c.least-low.result _ _ _ c.requires.ready c.requires.member c.least-low.ensures.value ((rw plain at c.has.ensures).0 c.if-not-has.false) (rw plain at c.drop_value.ensures)
+    low_drops _ _ _ c.least-low.result _ _ _ c.requires.ready c.requires.member c.least-low.ensures.value ((rw plain at c.has.ensures).0 c.if-not-has.false) (rw plain at c.drop_value.ensures.narrows)

@@ -1,13 +1,14 @@
 use Rattle.std.proofs.Common.{length, pos}
 use Rattle.std.specs.Prelude.{slice_index_or}
 use Rattle.fzn_model.specs.declared.term.Term.TheVariants as term
-use Rattle.alldiff_prop.specs.Steps.{EachTo}
+use Rattle.dom_store.specs.Steps.{EachTo}
 use Rattle.alldiff_prop.specs.Untaken.{BoundsAreFree}
-use Rattle.alldiff_prop.proofs.Stepping.{each_none, each_more, each_all, step_done, step_end_after, ready_after}
+use Rattle.dom_store.proofs.Stepping.{each_none, each_more, each_all, step_done, step_end_after}
+use Rattle.alldiff_prop.proofs.Ready.{ready_after}
 use Rattle.alldiff_prop.proofs.untaken.drop_taken.Goals as goal
 
 pub loop-term-init : goal.loop-term-init
-loop-term-init c = each_none (BoundsAreFree c.args.taken.now) _ _ _ c.witness.ensures
+loop-term-init c = each_none (BoundsAreFree c.args.taken.now) _ _ _ c.recall_domains.ensures.domains
 
 pub drop_bounds-requires-clause-ready : goal.drop_bounds-requires-clause-ready
 drop_bounds-requires-clause-ready c = ready_after (EachTo (BoundsAreFree c.args.taken.now) c.args.members.now c.loop-term.term-index) _ _ _ _ _ c.loop-term.invariant c.requires

@@ -1,6 +1,6 @@
 use Rattle.fzn_model.specs.declared.con.Con.TheVariants as con
 use Rattle.arith_prop.specs.Sizes.{SizeRaised, SizeCapped}
-use Rattle.arith_prop.proofs.Stepping.{pass_both, pass_end}
+use Rattle.arith_prop.proofs.Passing.{pass_both, pass_end}
 use Rattle.arith_prop.proofs.Sizing.{abs_owed}
 use Rattle.arith_prop.proofs.abs.pass_abs.Goals as goal
 

@@ -1,5 +1,5 @@
 use Rattle.std.specs.Prelude.{length}
-use Rattle.fzn_model.specs.Kept.{TermIn}
+use Rattle.fzn_model.specs.Limits.{TermIn}
 use Rattle.arith_prop.specs.Extremes.{IsLowest}
 use Rattle.arith_prop.proofs.bounds.lowest.Given as goal
 

@@ -7,7 +7,7 @@ use Rattle.arith_prop.proofs.Choosing.{members_capped_none, members_capped_more,
 use Rattle.arith_prop.proofs.extremes.cap_members.Goals as goal
 
 pub loop-term-init : goal.loop-term-init
-loop-term-init c = members_capped_none c.args.m c.args.terms.now c.args.store.now c.count-count.ensures.sound
+loop-term-init c = members_capped_none c.args.m c.args.terms.now c.args.store.now c.recall_domains.ensures.domains
 
 pub loop-term-preserved : goal.loop-term-preserved
 loop-term-preserved c =

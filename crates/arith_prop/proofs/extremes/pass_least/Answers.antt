@@ -1,7 +1,7 @@
 use Rattle.std.proofs.Common.{length}
 use Rattle.fzn_model.specs.declared.con.Con.TheVariants as con
 use Rattle.arith_prop.specs.Extremes.{LeastCapped, LeastRaised, MembersRaised}
-use Rattle.arith_prop.proofs.Stepping.{pass_three, pass_end, pass_end_after}
+use Rattle.arith_prop.proofs.Passing.{pass_three, pass_end, pass_end_after}
 use Rattle.arith_prop.proofs.Choosing.{least_owed}
 use Rattle.arith_prop.proofs.extremes.pass_least.Goals as goal
 

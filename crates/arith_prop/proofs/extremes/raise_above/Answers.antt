@@ -7,5 +7,5 @@ use Rattle.arith_prop.proofs.extremes.raise_above.Goals as goal
 pub returns : goal.returns
 returns c =
     let plain : to_z w64 (of_z w64 c.least-low.result) ≡ c.least-low.result = omega (arith, ints) in
-    raised_above c.args.store.now c.raise_to.new.store c.args.term c.args.other c.least-low.result c.raise_to.result
-    c.least-low.ensures.sound c.requires.other c.least-low.ensures.value (rw plain at c.raise_to.ensures)
+    raised_above c.args.store.now c.cut_below.new.store c.args.term c.args.other c.least-low.result c.cut_below.result
+    c.least-low.ensures.well_formed c.requires.other c.least-low.ensures.value (rw plain at c.cut_below.ensures.narrows)

@@ -7,5 +7,5 @@ use Rattle.arith_prop.proofs.extremes.raise_least.Goals as goal
 pub returns : goal.returns
 returns c =
     let plain : to_z w64 (of_z w64 c.least-low.result) ≡ c.least-low.result = omega (arith, ints) in
-    least_raised c.args.store.now c.raise_to.new.store c.args.m c.args.terms.now c.lowest-bottom.result c.least-low.result c.raise_to.result
-    c.least-low.ensures.sound c.requires c.lowest-bottom.ensures.bound c.least-low.ensures.value (rw plain at c.raise_to.ensures)
+    least_raised c.args.store.now c.cut_below.new.store c.args.m c.args.terms.now c.lowest-bottom.result c.least-low.result c.cut_below.result
+    c.least-low.ensures.well_formed c.requires c.lowest-bottom.ensures.bound c.least-low.ensures.value (rw plain at c.cut_below.ensures.narrows)

@@ -1,4 +1,4 @@
-use Rattle.std.proofs.Common.{arith, ◌+◌, ◌≤◌, refl, length, ℕ, length-take}
+use Rattle.std.proofs.Common.{arith, ◌+◌, refl, length, length-take}
 use Rattle.cs_base.proofs.Bytes.{consumes_buffer}
 use Rattle.cs_base.proofs.reading.read_all.Goals as goal
 

@@ -1,7 +1,7 @@
 use Rattle.std.proofs.Common.{pos, get_or, subst, ℤ}
 use Rattle.fzn_model.specs.declared.term.Term.TheVariants as term
 use Rattle.fzn_model.specs.declared.cumulative.CumTask.{CumTask}
-use Rattle.dom_store.specs.Steps.{Moves, LowIs, IsAtLeast}
+use Rattle.dom_store.specs.Steps.{NarrowsTerm, LowIs, IsAtLeast}
 use Rattle.cumul_prop.proofs.Limiting.{limited_then, limited_never}
 use Rattle.cumul_prop.proofs.starts.limit_start.Goals as goal
 
@@ -16,13 +16,13 @@ unfolding none zeros
 returns-in-Empty c =
     let t = (get_or c.args.tasks.now c.args.at none).s in
     let low = (get_or c.args.limits.now c.args.at zeros).0 in
-    limited_never c.args.tasks.now c.args.used.now c.args.capacity c.args.limits.now c.args.at none zeros c.args.store.now c.raise_to.new.store c.requires.bounded
-    (subst (Moves (IsAtLeast low) (LowIs t low) t c.args.store.now c.raise_to.new.store) c.in-Empty.is c.raise_to.ensures)
+    limited_never c.args.tasks.now c.args.used.now c.args.capacity c.args.limits.now c.args.at none zeros c.args.store.now c.cut_below.new.store c.requires.bounded
+    (subst (NarrowsTerm (IsAtLeast low) (LowIs t low) t c.args.store.now c.cut_below.new.store) c.in-Empty.is c.cut_below.ensures.narrows)
 
 pub returns : goal.returns
 unfolding none zeros
 returns c =
     let t = (get_or c.args.tasks.now c.args.at none).s in
     let low = (get_or c.args.limits.now c.args.at zeros).0 in
-    limited_then c.args.tasks.now c.args.used.now c.args.capacity c.args.limits.now c.args.at none zeros c.args.store.now c.raise_to.new.store c.cap_to.new.store c.cap_to.result c.requires.at c.requires.count c.requires.bounded
-    (subst (Moves (IsAtLeast low) (LowIs t low) t c.args.store.now c.raise_to.new.store) c.in-Done.is c.raise_to.ensures) c.cap_to.ensures
+    limited_then c.args.tasks.now c.args.used.now c.args.capacity c.args.limits.now c.args.at none zeros c.args.store.now c.cut_below.new.store c.cut_above.new.store c.cut_above.result c.requires.at c.requires.count c.requires.bounded
+    (subst (NarrowsTerm (IsAtLeast low) (LowIs t low) t c.args.store.now c.cut_below.new.store) c.in-Done.is c.cut_below.ensures.narrows) c.cut_above.ensures.narrows

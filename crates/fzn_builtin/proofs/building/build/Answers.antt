@@ -1,13 +1,16 @@
-use Rattle.fzn_builtin.proofs.Suiting.{suits_of}
+use Rattle.fzn_builtin.specs.Internals.{HasArguments}
+use Rattle.fzn_builtin.proofs.ArgumentsRead.{has_arguments}
 use Rattle.fzn_builtin.proofs.Keeping.{answer_kept, answer_true}
 use Rattle.fzn_builtin.proofs.building.build.Goals as goal
 
-pub con_of-requires : goal.con_of-requires
-con_of-requires c =
-    rw c.shape.ensures.value (suits_of c.args.builtin c.args.args.now c.shape.ensures.below c.requires.fit c.requires.whole)
+pub constraint_of-requires : goal.constraint_of-requires
+constraint_of-requires c =
+    rw c.shape.ensures.value (has_arguments c.args.builtin c.args.args.now c.shape.ensures.below c.requires.fit c.requires.whole)
 
 pub returns-clause-kept : goal.returns-clause-kept
-returns-clause-kept c = answer_kept c.shape.result c.args.args.now c.con_of.result c.con_of.ensures
+returns-clause-kept c = answer_kept c.shape.result c.args.args.now c.constraint_of.result c.constraint_of.ensures
 
 pub returns-clause-truths : goal.returns-clause-truths
-returns-clause-truths c = answer_true c.shape.result c.args.args.now c.con_of.result c.con_of.ensures
+returns-clause-truths c =
+    let there : HasArguments c.shape.result c.args.args.now = rw c.shape.ensures.value (has_arguments c.args.builtin c.args.args.now c.shape.ensures.below c.requires.fit c.requires.whole) in
+    answer_true c.shape.result c.args.args.now c.constraint_of.result there c.constraint_of.ensures

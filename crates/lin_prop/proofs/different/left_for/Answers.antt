@@ -9,5 +9,5 @@ pub returns-clause-value : goal.returns-clause-value
 returns-clause-value c =
     let f : FitsSigned w128 c.less.result = search rules in
     let g : FitsSigned w128 c.sum_low-sum.result = search rules in
-    let h : FitsSigned w128 c.part_low-part.result = search rules in
-    simp to_z-of_z (leaves c.args.store.now.box c.args.parts.now c.args.at (pos 0, Const (pos 0)) c.args.r.now _ _ _ c.requires.at c.sum_low-sum.ensures.value c.part_low-part.ensures.value (simp to_z-of_z at c.less.ensures.value))
+    let h : FitsSigned w128 c.scaled_low-scaled.result = search rules in
+    simp to_z-of_z (leaves c.args.store.now.box c.args.terms.now c.args.at (pos 0, Const (pos 0)) c.args.r.now _ _ _ c.requires.at c.sum_low-sum.ensures.value c.scaled_low-scaled.ensures.value (simp to_z-of_z at c.less.ensures.value))

@@ -4,18 +4,17 @@ use Rattle.std.proofs.lemmas.List.{get_or_default}
 use Rattle.fzn_model.specs.declared.base.Base.TheVariants as base
 use Rattle.dom_store.specs.declared.pass.Passed.TheVariants as passed
 use Rattle.reif_prop.specs.Parts.{member_of}
-use Rattle.reif_prop.specs.Steps.{Fails}
-use Rattle.reif_prop.specs.Denying.{FirstRunsAreOff}
-use Rattle.reif_prop.proofs.Stepping.{term_on}
+use Rattle.reif_prop.specs.Failing.{Fails}
+use Rattle.dom_store.proofs.Stepping.{still_in}
 use Rattle.reif_prop.proofs.Members.{runs_none, runs_more, runs_end, runs_all}
 use Rattle.reif_prop.proofs.member.deny_member.Goals as goal
 
 pub loop-run-init : goal.loop-run-init
-loop-run-init c = runs_none c.args.x c.args.set.now c.args.store.now c.requires.sound
+loop-run-init c = runs_none c.args.x c.args.set.now c.args.store.now c.requires.well_formed
 
 pub drop_run-requires-clause-term : goal.drop_run-requires-clause-term
 drop_run-requires-clause-term c =
-    term_on (FirstRunsAreOff c.args.x c.args.set.now c.loop-run.run-index) (Fails (base.Member (member_of c.args.x c.args.set.now))) c.args.store.now c.loop-run.store passed.Done c.args.x c.loop-run.invariant c.requires.kept.x
+    still_in (Fails (base.Member (member_of c.args.x c.args.set.now))) c.args.store.now c.loop-run.store c.args.x c.loop-run.invariant.prunes c.requires.kept.x
 
 pub returns-in-Empty : goal.returns-in-Empty
 returns-in-Empty c =

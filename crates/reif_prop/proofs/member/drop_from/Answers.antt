@@ -2,8 +2,8 @@ use Rattle.std.proofs.Common.{◌≡◌, arith, to_z, of_z, pos, ◌+ℤ◌, ◌
 use Rattle.std.specs.Int.{w64}
 use Rattle.std.proofs.lemmas.Int.{ints, to_z-of_z}
 use Rattle.dom_store.specs.declared.pass.Passed.TheVariants as passed
-use Rattle.reif_prop.specs.Denying.{AreOff, Misses}
-use Rattle.reif_prop.proofs.Stepping.{term_on}
+use Rattle.reif_prop.specs.Denying.{Misses}
+use Rattle.dom_store.proofs.Stepping.{still_in}
 use Rattle.reif_prop.proofs.Finding.{is_less, not_less}
 use Rattle.reif_prop.proofs.Members.{off_none, off_more, off_end, off_all}
 use Rattle.reif_prop.proofs.member.drop_from.Goals as goal
@@ -13,14 +13,11 @@ loop-value-init c =
     let first : to_z w64 (of_z w64 c.args.first) ≡ c.args.first = to_z-of_z w64 c.args.first c.ranges.first in
     record {
       from = omega (arith, ints);
-      steps = rw first (off_none c.args.x c.args.run.now c.args.first c.args.store.now c.requires.sound);
+      steps = rw first (off_none c.args.x c.args.run.now c.args.first c.args.store.now c.requires.well_formed);
     }
 
-pub drop_value-requires : goal.drop_value-requires
-drop_value-requires c =
-    let first : to_z w64 (of_z w64 c.args.first) ≡ c.args.first = to_z-of_z w64 c.args.first c.ranges.first in
-    let v = to_z w64 c.loop-value.value-bits in
-    term_on (AreOff c.args.x c.args.first v) (Misses c.args.x c.args.run.now) c.args.store.now c.loop-value.store passed.Done c.args.x (rw first at c.loop-value.invariant.steps) c.requires.term
+pub drop_number-requires : goal.drop_number-requires
+drop_number-requires c = still_in (Misses c.args.x c.args.run.now) c.args.store.now c.loop-value.store c.args.x c.loop-value.invariant.steps.prunes c.requires.term
 
 pub returns-in-Empty : goal.returns-in-Empty
 returns-in-Empty c =
@@ -30,7 +27,7 @@ returns-in-Empty c =
     let less : v <ℤ c.args.end = rw end at (is_less v (to_z w64 (of_z w64 c.args.end)) c.loop-value-test.true) in
     let from : c.args.run.now.0 ≤ℤ v = omega (arith, ints, c.loop-value.invariant.from, first, c.requires.first) in
     let to : v ≤ℤ c.args.run.now.1 = omega (arith, ints, less, c.requires.end) in
-    off_end c.args.x c.args.run.now c.args.first v c.args.end c.args.store.now c.loop-value.store c.drop_value.new.store from to (rw first at c.loop-value.invariant.steps) c.in-Empty.ensures
+    off_end c.args.x c.args.run.now c.args.first v c.args.end c.args.store.now c.loop-value.store c.drop_number.new.store from to (rw first at c.loop-value.invariant.steps) c.in-Empty.ensures
 
 pub loop-value-preserved : goal.loop-value-preserved
 loop-value-preserved c =
@@ -43,7 +40,7 @@ loop-value-preserved c =
     let next : to_z w64 (of_z w64 (v +ℤ pos 1)) ≡ v +ℤ pos 1 = omega (arith, ints) in
     record {
       from = rw next (omega (arith, ints, c.loop-value.invariant.from));
-      steps = rw (first, next) (off_more c.args.x c.args.run.now c.args.first v c.args.store.now c.loop-value.store c.drop_value.new.store from to (rw first at c.loop-value.invariant.steps) c.in-Done.ensures);
+      steps = rw (first, next) (off_more c.args.x c.args.run.now c.args.first v c.args.store.now c.loop-value.store c.drop_number.new.store from to (rw first at c.loop-value.invariant.steps) c.in-Done.ensures);
     }
 
 pub returns : goal.returns

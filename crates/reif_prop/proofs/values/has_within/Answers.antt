@@ -11,7 +11,7 @@ loop-value-init c =
     let first : to_z w64 (of_z w64 c.first_from-first.result) ≡ c.first_from-first.result = omega (arith, ints) in
     record {
       from = rw first (omega (arith, ints));
-      none = rw first (none_first c.args.store.now.box c.args.x c.args.low.now c.first_from-first.result c.first_from-first.ensures.sound c.requires.term c.first_from-first.ensures.value);
+      none = rw first (none_first c.args.store.now.box c.args.x c.args.low.now c.first_from-first.result c.first_from-first.ensures.well_formed c.requires.term c.first_from-first.ensures.value);
     }
 
 pub returns-then-can_have : goal.returns-then-can_have
@@ -40,4 +40,4 @@ returns c =
     let v = to_z w64 c.loop-value.value-bits in
     let end : to_z w64 (of_z w64 c.end_by-end.result) ≡ c.end_by-end.result = omega (arith, ints) in
     let past : c.end_by-end.result ≤ℤ v = rw end at (not_less v (to_z w64 (of_z w64 c.end_by-end.result)) c.loop-value-test.false) in
-    ((λ e. absurd (false≢true e)), (λ h. absurd (none_within c.args.store.now.box c.args.x c.args.low.now c.args.high.now v c.end_by-end.result c.end_by-end.ensures.sound c.requires.term c.end_by-end.ensures.value past c.loop-value.invariant.none h)))
+    ((λ e. absurd (false≢true e)), (λ h. absurd (none_within c.args.store.now.box c.args.x c.args.low.now c.args.high.now v c.end_by-end.result c.end_by-end.ensures.well_formed c.requires.term c.end_by-end.ensures.value past c.loop-value.invariant.none h)))

@@ -1,4 +1,4 @@
-use Rattle.rest_basic.proofs.SuitLaw.{suit_law}
+use Rattle.rest_basic.proofs.FitLaw.{suit_law}
 use Rattle.rest_basic.proofs.laws.forms_suit_the_box.Goals as goal
 
 pub returns : goal.returns

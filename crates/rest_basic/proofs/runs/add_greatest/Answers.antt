@@ -1,6 +1,6 @@
 use Rattle.std.proofs.Common.{arith, refl}
 use Rattle.std.proofs.lemmas.Bool.{false≢true}
-use Rattle.rest_basic.proofs.Gathering.{add_first, add_touching, add_apart}
+use Rattle.rest_basic.proofs.GatheredRuns.{add_first, add_touching, add_apart}
 use Rattle.rest_basic.proofs.runs.add_greatest.Goals as goal
 
 pub returns-in_ok-push-in-None : goal.returns-in_ok-push-in-None

@@ -3,13 +3,13 @@ use Rattle.std.specs.Prelude.{pos, ◌+ℤ◌, ◌<ℤ◌}
 use Rattle.std.specs.Int.{w64}
 use Rattle.std.proofs.lemmas.Int.{ints, to_z-of_z}
 use Rattle.fzn_model.specs.Bounds.{term_high}
-use Rattle.rest_basic.proofs.Gathering.{gathered_none, gathered_all}
+use Rattle.rest_basic.proofs.GatheredRuns.{gathered_none, gathered_all}
 use Rattle.rest_basic.proofs.runs.gather.Goals as goal
 
 pub loop-number-init : goal.loop-number-init
 loop-number-init g c =
     let low : to_z w64 (of_z w64 c.args.low) ≡ c.args.low = to_z-of_z w64 c.args.low c.ranges.low in
-    rw (low, c.requires.low, c.new-runs.ensures.items) (gathered_none (g.V.BoxView.shape c.args.view.now) c.args.x c.args.set.now c.requires.sound)
+    rw (low, c.requires.low, c.new-runs.ensures.items) (gathered_none (g.V.BoxView.shape c.args.view.now) c.args.x c.args.set.now c.requires.well_formed)
 
 pub loop-number-preserved : goal.loop-number-preserved
 loop-number-preserved g c =
@@ -20,4 +20,4 @@ pub returns : goal.returns
 returns g c =
     let end : to_z w64 (of_z w64 c.args.end) ≡ c.args.end = to_z-of_z w64 c.args.end c.ranges.end in
     let past : term_high (g.V.BoxView.shape c.args.view.now) c.args.x <ℤ to_z w64 c.loop-number.number-counter-bits = omega (arith, ints, end) in
-    rw c.from_vec.ensures (gathered_all (g.V.BoxView.shape c.args.view.now) c.args.x c.args.set.now (to_z w64 c.loop-number.number-counter-bits) c.loop-number.runs.items c.requires.sound past c.loop-number.invariant)
+    rw c.from_vec.ensures (gathered_all (g.V.BoxView.shape c.args.view.now) c.args.x c.args.set.now (to_z w64 c.loop-number.number-counter-bits) c.loop-number.runs.items c.requires.well_formed past c.loop-number.invariant)

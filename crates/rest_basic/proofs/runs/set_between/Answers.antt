@@ -1,7 +1,7 @@
 use Rattle.std.proofs.Common.{arith}
 use Rattle.std.specs.Prelude.{◌≤ℤ◌}
 use Rattle.std.proofs.lemmas.Int.{ints}
-use Rattle.rest_basic.proofs.Gathering.{clipped_runs}
+use Rattle.rest_basic.proofs.GatheredRuns.{clipped_runs}
 use Rattle.rest_basic.proofs.runs.set_between.Goals as goal
 
 pub invariant_of-result : goal.invariant_of-result

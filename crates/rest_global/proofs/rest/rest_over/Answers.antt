@@ -1,9 +1,9 @@
 use Rattle.std.proofs.Common.{◌≡◌, ap, subst, ◌∙◌}
 use Rattle.fzn_model.specs.Parts.{Parts}
-use Rattle.fzn_model.specs.Kept.{IsModel}
+use Rattle.fzn_model.specs.Limits.{IsModel}
 use Rattle.rest_global.specs.Projection.{AreLeft, cost_left}
 use Rattle.rest_global.proofs.RestKept.{rest_domains, rest_kept}
-use Rattle.rest_global.proofs.Within.{model_over}
+use Rattle.rest_global.proofs.ModelOverBox.{model_over}
 use Rattle.rest_global.proofs.rest.rest_over.Goals as goal
 
 pub left_of-requires-clause-over : goal.left_of-requires-clause-over
@@ -22,4 +22,4 @@ of_parts-rest-requires g c =
     let doms : c.in_ok-doms.doms ≡ rest_domains box = rw c.requires.variables at c.in_ok-doms.ensures in
     let left : AreLeft box 0 m.cons c.in_ok-left.left.cons c.in_ok-left.left.labels = rw cons at c.in_ok-left.ensures in
     let cost : c.in_ok-cost.cost ≡ cost_left box m.goal = c.in_ok-cost.ensures ∙ ap (λ (p : Parts). cost_left box p.goal) c.model.view_is in
-    rest_kept box m (record { doms = c.in_ok-doms.doms; cost = c.in_ok-cost.cost; cons = c.in_ok-left.left.cons; labels = c.in_ok-left.left.labels }) c.requires.sound model c.requires.within doms left cost
+    rest_kept box m (record { doms = c.in_ok-doms.doms; cost = c.in_ok-cost.cost; cons = c.in_ok-left.left.cons; labels = c.in_ok-left.left.labels }) c.requires.well_formed model c.requires.within doms left cost

@@ -1,7 +1,7 @@
 use Rattle.std.proofs.Common.{arith, Err}
 use Rattle.std.proofs.lemmas.List.Sorted.{searched}
 use Rattle.rest_key.specs.Dominance.{IsCovered}
-use Rattle.rest_key.proofs.Labels.{rising_not_falling, not_found}
+use Rattle.rest_key.proofs.RisingLabels.{rising_not_falling, not_found}
 use Rattle.rest_key.proofs.dominance.is_covered.Goals as goal
 
 pub returns-in-Err : goal.returns-in-Err

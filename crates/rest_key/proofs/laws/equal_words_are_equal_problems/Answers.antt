@@ -1,4 +1,4 @@
-use Rattle.rest_key.proofs.Injective.{equal_words}
+use Rattle.rest_key.proofs.EqualWords.{equal_words}
 use Rattle.rest_key.proofs.laws.equal_words_are_equal_problems.Goals as goal
 
 pub returns : goal.returns

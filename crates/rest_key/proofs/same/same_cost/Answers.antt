@@ -1,4 +1,4 @@
-use Rattle.rest_key.proofs.Equal.{costs_decide}
+use Rattle.rest_key.proofs.EqualParts.{costs_decide}
 use Rattle.rest_key.proofs.same.same_cost.Goals as goal
 
 pub returns : goal.returns

@@ -1,4 +1,4 @@
-use Rattle.rest_key.proofs.Equal.{numbers_decide}
+use Rattle.rest_key.proofs.EqualParts.{numbers_decide}
 use Rattle.rest_key.proofs.same.same_row.Goals as goal
 
 pub returns : goal.returns

@@ -1,4 +1,4 @@
-use Rattle.rest_key.proofs.Equal.{runs_decide}
+use Rattle.rest_key.proofs.EqualParts.{runs_decide}
 use Rattle.rest_key.proofs.same.same_runs.Goals as goal
 
 pub returns : goal.returns

@@ -1,6 +1,6 @@
 use Rattle.std.proofs.Common.{arith, ap, length, subst}
 use Rattle.fzn_model.specs.Sets.{AreRuns}
-use Rattle.rest_key.proofs.Inside.{within_some}
+use Rattle.rest_key.proofs.RunsWithin.{within_some}
 use Rattle.rest_key.proofs.sets.is_run_within.Goals as goal
 
 pub returns-then-place-runs : goal.returns-then-place-runs

@@ -1,6 +1,6 @@
 use Rattle.std.proofs.Common.{arith, pos}
 use Rattle.std.proofs.lemmas.Int.{ints, to_z-of_z}
-use Rattle.rest_key.proofs.Amounts.{amount_drop}
+use Rattle.fzn_model.proofs.Moments.{amount_drop}
 use Rattle.rest_key.proofs.used.sum_at.Goals as goal
 
 pub loop-part-preserved : goal.loop-part-preserved

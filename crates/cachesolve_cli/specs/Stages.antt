@@ -1,0 +1,23 @@
+-- How far a run came, and the ways in which it can end there.
+use Rattle.std.specs.Prelude.{◌≡◌, ℕ, List, Some, None, ⊤}
+use Rattle.std.specs.declared.option.Option.{Option}
+use Rattle.cachesolve_cli.specs.declared.ending.Ending.{Ending}
+use Rattle.cachesolve_cli.specs.declared.ending.Ending.TheVariants as ending
+
+-- the bytes are all that a source had left, where it tells them
+abbrev pub IsAll : Option (List ℕ) → List ℕ → Type 0
+IsAll None bytes = ⊤
+IsAll (Some xs) bytes = xs ≡ bytes
+
+-- a way to end while reading
+abbrev pub IsUnread : Ending → Type 0
+IsUnread ending.NoMemory = ⊤
+IsUnread (ending.Refused r token) = ⊤
+IsUnread ending.ReadFailed = ⊤
+IsUnread e = ⊥
+
+-- a way to end once all is read
+abbrev pub IsRead : Ending → Type 0
+IsRead ending.WrongWords = ⊥
+IsRead ending.ReadFailed = ⊥
+IsRead e = ⊤

@@ -1,8 +1,0 @@
-use Rattle.std.proofs.Common.{◌≡◌, ◌-◌}
-use Rattle.fzn_parser.specs.Reading.{is_end, one_item}
-use Rattle.fzn_parser.specs.Drafts.{nothing}
-use Rattle.fzn_parser.specs.Refusals.{repeat, most}
-use Rattle.fzn_parser.proofs.file.items.Given as goal
-
-abbrev pub invariant-loop-turn : goal.invariant-loop-turn
-invariant-loop-turn l = repeat is_end one_item (67108865 - l._turn) l.draft l.reader ≡ repeat is_end one_item most nothing l.fn.reader

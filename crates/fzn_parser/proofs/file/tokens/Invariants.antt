@@ -1,8 +1,0 @@
-use Rattle.std.proofs.Common.{◌≡◌, ◌-◌}
-use Rattle.fzn_parser.specs.Annotations.{passing}
-use Rattle.fzn_parser.specs.Reading.{token_at, ends_item}
-use Rattle.fzn_parser.specs.Refusals.{repeat, most}
-use Rattle.fzn_parser.proofs.file.tokens.Given as goal
-
-abbrev pub invariant-loop-turn : goal.invariant-loop-turn
-invariant-loop-turn l = repeat ends_item (passing token_at) (67108865 - l._turn) tt l.reader ≡ repeat ends_item (passing token_at) most tt l.fn.reader

@@ -1,0 +1,13 @@
+pub mod InHand
+pub mod Repeat
+pub mod Capped
+pub mod NamesSeen
+pub mod RunLemmas
+pub mod Wider
+pub mod DraftKept
+pub mod ScalarLemmas
+pub mod ListLemmas
+pub mod AnnLemmas
+pub mod VariableLemmas
+pub mod ArgLemmas
+pub mod SearchLemmas

@@ -1,6 +1,0 @@
-use Rattle.std.proofs.Common.{◌≡◌, fold, take}
-use Rattle.std.specs.Int.{int_max}
-use Rattle.rest_global.proofs.extremes.greatest_from.Given as goal
-
-abbrev pub invariant-loop-value : goal.invariant-loop-value
-invariant-loop-value l = l.best ≡ fold int_max l.first (take l.value-index l.others)

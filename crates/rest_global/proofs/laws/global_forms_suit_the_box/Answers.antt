@@ -1,5 +1,0 @@
-use Rattle.rest_global.proofs.GlobalLaw.{global_suits}
-use Rattle.rest_global.proofs.laws.global_forms_suit_the_box.Goals as goal
-
-pub returns : goal.returns
-returns c = global_suits

@@ -1,5 +1,0 @@
-use Rattle.rest_global.proofs.Lefts.{AreLeftBefore}
-use Rattle.rest_global.proofs.left.left_of.Given as goal
-
-abbrev pub invariant-loop-at : goal.invariant-loop-at
-invariant-loop-at g l = AreLeftBefore (g.V.BoxView.shape l.view) l.all l.at l.cons l.labels

@@ -1,6 +1,0 @@
-use Rattle.std.proofs.Common.{◌≡◌}
-use Rattle.rest_global.proofs.Rowing.{left_below}
-use Rattle.rest_global.proofs.table.rows_left.Given as goal
-
-abbrev pub invariant-loop-k : goal.invariant-loop-k
-invariant-loop-k g l = l.left.keys ≡ left_below (g.V.BoxView.shape l.view) l.xs l.rows l.k
