@@ -1,10 +1,13 @@
 -- Residual problems: a small model whose cost is a linear form of its variables. Each constraint has a label, its place in
 -- the model that the problem is left of; labels mean nothing for its solutions. It is this project's own, after the
 -- published idea of subproblem equivalence (Chu, Garcia de la Banda, Stuckey, 2010).
-use Rattle.std.specs.Prelude.{◌≡◌, ℕ, ◌<◌, ◌≤◌, List, [], ◌∷◌, length, slice_index_or, ℤ, pos, ◌+ℤ◌, ◌*ℤ◌, All, AllPairs}
+use Rattle.std.specs.Prelude.{◌≡◌, ℕ, ◌<◌, ◌≤◌, List, [], ◌∷◌, length, slice_index_or, ℤ, pos, ◌+ℤ◌, ◌-ℤ◌, ◌*ℤ◌, ◌<ℤ◌, ◌≤ℤ◌, All, AllPairs, Contains}
 use Rattle.fzn_model.specs.declared.con.Con.{Con}
+use Rattle.fzn_model.specs.Sets.{IsIn}
+use Rattle.fzn_model.specs.Parts.{Parts}
+use Rattle.fzn_model.specs.Boxes.{domain_at}
 use Rattle.fzn_model.specs.Limits.{IsValue, DomainInLimits, ConInLimits, ConTruths, of_call}
-use Rattle.fzn_model.specs.Solutions.{InDomains, MeetsAll}
+use Rattle.fzn_model.specs.Solutions.{InDomains, MeetsAll, Solves, cost}
 
 pub record RestParts : Type 0 where
   pub doms : List (List (ℤ × ℤ))
@@ -42,3 +45,21 @@ pub record IsRest (r : RestParts) : Type 0 where
   pub cost : CostInLimits (length r.doms) r.cost
   pub labelled : length r.labels ≡ length r.cons
   pub rising : AllPairs (λ a b. a < b) r.labels
+
+-- An entry, a residual problem with a bound, is true where no solution of the problem costs less than the bound. It names
+-- no other model, so it is a fact of the entry alone.
+unfoldable pub IsTrueEntry : RestParts → ℤ → Type 0
+IsTrueEntry r bound = (ρ : List ℤ) → SolvesRest r ρ → bound ≤ℤ rest_cost r ρ
+
+-- A residual problem is a rest of those solutions of a model that have P, below a bound and with an offset: each of them
+-- that costs less than the bound has a solution of the problem, and each solution of the problem that costs less than the
+-- bound less the offset has one of them, and their costs differ by the offset. P says that they lie in a box, or that they
+-- meet a path.
+pub record IsRestOf (P : List ℤ → Type 0) (m : Parts) (below : ℤ) (r : RestParts) (offset : ℤ) : Type 0 where
+  pub down : (θ : List ℤ) → Solves m θ → P θ → cost m θ <ℤ below → (ρ : List ℤ) × SolvesRest r ρ × (cost m θ ≡ (rest_cost r ρ +ℤ offset))
+  pub up : (ρ : List ℤ) → SolvesRest r ρ → rest_cost r ρ <ℤ (below -ℤ offset) → (θ : List ℤ) × Solves m θ × P θ × (cost m θ ≡ (rest_cost r ρ +ℤ offset))
+
+-- each domain of a box lies within that of the model
+pub record LiesWithin (box : List (List ℤ)) (m : Parts) : Type 0 where
+  pub count : length box ≡ length m.doms
+  pub within : (k : ℕ) (z : ℤ) → Contains (domain_at box k) z → IsIn (slice_index_or m.doms k []) z

@@ -15,7 +15,7 @@ use Rattle.fzn_model.specs.Limits.{IsBit, ConInLimits, IsTruth, BaseTruths, ConT
 use Rattle.fzn_model.specs.Boxes.{domain_at}
 use Rattle.fzn_model.specs.Booleans.{IsBoolean, BaseBooleans, ConBooleans}
 use Rattle.fzn_model.proofs.Wider.{con_of_call}
-use Rattle.rest_global.specs.Projection.{LiesWithin}
+use Rattle.fzn_model.specs.Rests.{LiesWithin}
 use Rattle.rest_global.specs.Making.{IsOver}
 
 -- ---- Booleans

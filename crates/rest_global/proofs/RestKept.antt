@@ -1,6 +1,6 @@
 -- The rest of a box keeps the limits of a residual problem.
-use Rattle.std.proofs.Common.{◌≡◌, ℕ, zero, suc, ◌*◌, ◌<◌, ◌≤◌, Bool, true, false, List, [], ◌∷◌, length, get_or, map, refl, ap, sym, subst, ◌∙◌, arith, ℤ, pos, negsuc, ◌-ℤ◌, ◌≤ℤ◌, ◌<ℤ◌}
-use Rattle.std.specs.Prelude.{All, AllPairs, if◌then◌else◌, int_lt, slice_index_or}
+use Rattle.std.proofs.Common.{◌≡◌, ℕ, zero, suc, ◌*◌, ◌<◌, ◌≤◌, Bool, true, false, List, [], ◌∷◌, length, get_or, map, refl, ap, sym, subst, ◌∙◌, arith, ℤ, pos, negsuc, neg_ℤ, ◌-ℤ◌, ◌≤ℤ◌, ◌<ℤ◌}
+use Rattle.std.specs.Prelude.{All, AllPairs, if◌then◌else◌, int_lt, slice_index_or, unsigned_abs}
 use Rattle.std.proofs.lemmas.Int.{ints}
 use Rattle.std.proofs.lemmas.List.{length-map, get_or-map}
 use Rattle.std.proofs.lemmas.List.Elements.{All-head, All-tail, All-cons, All-nil, All-map, All-weaker}
@@ -22,7 +22,7 @@ use Rattle.fzn_model.specs.Booleans.{IsBoolean, BaseBooleans, ConBooleans}
 use Rattle.fzn_model.proofs.Domains.{between, low_in}
 use Rattle.fzn_model.proofs.Grouping.{same_runs, runs_are, runs_have}
 use Rattle.fzn_model.specs.Grouping.{runs_of}
-use Rattle.fzn_model.specs.Rests.{RestParts, CostInLimits, IsRest}
+use Rattle.fzn_model.specs.Rests.{RestParts, CostInLimits, IsRest, LiesWithin}
 use Rattle.fzn_model.proofs.Tops as tops
 use Rattle.rest_basic.specs.Forms.{substituted}
 use Rattle.rest_basic.specs.declared.reduced.Reduced.{Reduced}
@@ -30,7 +30,8 @@ use Rattle.rest_basic.specs.declared.reduced.Reduced.TheVariants as reduced
 use Rattle.rest_basic.proofs.Substituting.{low_is, low_bit}
 use Rattle.rest_basic.proofs.Members.{ends_all}
 use Rattle.rest_global.specs.Renamed.{terms_by, linear_terms_by, task_by, tasks_by, base_by, con_by}
-use Rattle.rest_global.specs.Projection.{opens, place, numbered, rest_term, rest_variables, IsForm, IsFirst, AreLeft, open_part, cost_left, cost_offset, IsRestOfBox, LiesWithin}
+use Rattle.rest_global.specs.Projection.{opens, place, numbered, rest_term, rest_variables, IsForm, IsFirst, AreLeft, open_part, constant_part, cost_left, cost_offset, IsRestOfBox}
+use Rattle.rest_global.specs.Projected.{IsOffset}
 use Rattle.rest_global.specs.Making.{IsOver}
 use Rattle.rest_global.proofs.Places.{opens_at, opens_from, opens_below}
 use Rattle.rest_global.proofs.ConstraintsLeft.{form_suits}
@@ -245,6 +246,22 @@ cost_kept : (box : List (List ℤ)) (g : Goal) → IsBox box → GoalInLimits (l
 cost_kept box goal.Satisfy well_formed kept = none_kept (length (rest_variables box))
 cost_kept box (goal.Minimise t) well_formed kept = part_kept (length (rest_variables box)) (pos 1) (rest_term box t) (omega (arith, ints)) (term_kept box t well_formed kept)
 cost_kept box (goal.Maximise t) well_formed kept = part_kept (length (rest_variables box)) (negsuc 0) (rest_term box t) (omega (arith, ints)) (term_kept box t well_formed kept)
+
+-- ---- the offset
+part_small : (n : ℕ) (t : Term) → TermIn n t → unsigned_abs (constant_part t) ≤ 1000000
+part_small n (term.Const z) small = small
+part_small n (term.Var k) small = omega arith
+
+offset_of : (z : ℤ) → unsigned_abs z ≤ 1000000 → IsOffset z
+offset_of z small = record { low = omega (arith, ints, small); high = omega (arith, ints, small) }
+
+negated_offset : (z : ℤ) → unsigned_abs z ≤ 1000000 → IsOffset (neg_ℤ z)
+negated_offset z small = record { low = omega (arith, ints, small); high = omega (arith, ints, small) }
+
+pub offset_kept : (box : List (List ℤ)) (g : Goal) → IsBox box → GoalInLimits (length box) g → IsOffset (cost_offset box g)
+offset_kept box goal.Satisfy well_formed kept = offset_of (pos 0) (omega arith)
+offset_kept box (goal.Minimise t) well_formed kept = offset_of (constant_part (rest_term box t)) (part_small (length (rest_variables box)) (rest_term box t) (term_kept box t well_formed kept))
+offset_kept box (goal.Maximise t) well_formed kept = negated_offset (constant_part (rest_term box t)) (part_small (length (rest_variables box)) (rest_term box t) (term_kept box t well_formed kept))
 
 -- ---- the rest of a box
 pub rest_kept : (box : List (List ℤ)) (m : Parts) (r : RestParts) → IsBox box → IsModel m → LiesWithin box m → r.doms ≡ rest_domains box → AreLeft box 0 m.cons r.cons r.labels → r.cost ≡ cost_left box m.goal → IsRest r

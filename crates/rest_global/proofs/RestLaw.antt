@@ -21,7 +21,7 @@ use Rattle.fzn_model.proofs.Domains.{low_in}
 use Rattle.fzn_model.proofs.Grouping.{runs_have}
 use Rattle.fzn_model.specs.Grouping.{runs_of}
 use Rattle.fzn_model.specs.Solutions.{InDomains, MeetsAll, Solves, cost, goal_cost}
-use Rattle.fzn_model.specs.Rests.{RestParts, SolvesRest, cost_sum, rest_cost}
+use Rattle.fzn_model.specs.Rests.{RestParts, SolvesRest, cost_sum, rest_cost, IsRestOf, LiesWithin}
 use Rattle.rest_basic.specs.Forms.{substituted}
 use Rattle.rest_basic.specs.Equivalence.{FormHolds}
 use Rattle.rest_basic.specs.declared.reduced.Reduced.{Reduced}
@@ -29,7 +29,7 @@ use Rattle.rest_basic.specs.declared.reduced.Reduced.TheVariants as reduced
 use Rattle.rest_basic.proofs.TermsInBox.{shut_value}
 use Rattle.rest_basic.proofs.PlainLaw.{plain_law}
 use Rattle.rest_global.specs.Renamed.{con_by}
-use Rattle.rest_global.specs.Projection.{opens, place, numbered, rest_term, rest_variables, rest_values, IsForm, IsFirst, AreLeft, open_part, constant_part, cost_left, cost_offset, IsRestOfBox, LiesWithin, KeepsSolutions}
+use Rattle.rest_global.specs.Projection.{opens, place, numbered, rest_term, rest_variables, rest_values, IsForm, IsFirst, AreLeft, open_part, constant_part, cost_left, cost_offset, IsRestOfBox, KeepsSolutions}
 use Rattle.rest_global.specs.Making.{IsOver}
 use Rattle.rest_global.proofs.Places.{opens_at, opens_from}
 use Rattle.rest_forms.proofs.GlobalLaw.{global_law}
@@ -211,3 +211,12 @@ rest_law box m below r offset well_formed model within is = record {
   );
   up = λ ρ solves cheaper. let up = up_solves box m below r offset ρ well_formed model within is solves in (filled box ρ, up.lies, up.solves, up.back, up.costs);
 }
+
+-- ---- the same, of what lies in the box
+pub rest_means : (box : List (List ℤ)) (m : Parts) (below : ℤ) (r : RestParts) (offset : ℤ) → IsBox box → IsModel m → LiesWithin box m → IsRestOfBox box m below r offset → IsRestOf (InBox box) m below r offset
+rest_means box m below r offset well_formed model within is =
+    let law = rest_law box m below r offset well_formed model within is in
+    record {
+      down = λ θ solves lies cheaper. let here = law.down θ lies solves cheaper in (rest_values box θ, here.0, here.1);
+      up = λ ρ solves cheaper. let (θ, lies, solved, back, costs) = law.up ρ solves cheaper in (θ, solved, lies, costs);
+    }

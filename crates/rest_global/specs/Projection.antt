@@ -6,10 +6,9 @@ use Rattle.fzn_model.specs.declared.term.Term.TheVariants as term
 use Rattle.fzn_model.specs.declared.con.Con.{Con}
 use Rattle.fzn_model.specs.declared.goal.Goal.{Goal}
 use Rattle.fzn_model.specs.declared.goal.Goal.TheVariants as goal
-use Rattle.fzn_model.specs.Sets.{IsIn}
 use Rattle.fzn_model.specs.Parts.{Parts}
 use Rattle.fzn_model.specs.Boxes.{domain_at, InBox}
-use Rattle.fzn_model.specs.Bounds.{TermHas, is_open}
+use Rattle.fzn_model.specs.Bounds.{is_open}
 use Rattle.fzn_model.specs.Grouping.{runs_of}
 use Rattle.fzn_model.specs.Solutions.{Solves, cost}
 use Rattle.fzn_model.specs.Rests.{RestParts, SolvesRest, rest_cost}
@@ -88,11 +87,6 @@ pub record IsRestOfBox (box : List (List ℤ)) (m : Parts) (below : ℤ) (r : Re
   pub constraints : AreLeft box 0 m.cons r.cons r.labels
   pub cost : r.cost ≡ cost_left box m.goal
   pub constant : offset ≡ cost_offset box m.goal
-
--- each domain of the box lies within that of the model
-pub record LiesWithin (box : List (List ℤ)) (m : Parts) : Type 0 where
-  pub count : length box ≡ length m.doms
-  pub within : (k : ℕ) (z : ℤ) → TermHas box (term.Var k) z → IsIn (slice_index_or m.doms k []) z
 
 -- The solutions of the box that cost less than the bound are, on the variables of the rest, exactly the solutions of the
 -- rest that cost less than the bound less the offset, and their costs differ by it.

@@ -4,8 +4,8 @@ ghost use Rattle.std.specs.Prelude.{◌≡◌, List, ℤ};
 ghost use Rattle.fzn_model.specs.Parts.{Parts};
 ghost use Rattle.fzn_model.specs.Limits.{IsModel};
 ghost use Rattle.fzn_model.specs.Boxes.{IsBox};
-ghost use Rattle.fzn_model.specs.Rests.{RestParts};
-ghost use Rattle.rest_global.specs.Projection.{LiesWithin, IsRestOfBox, KeepsSolutions};
+ghost use Rattle.fzn_model.specs.Rests.{RestParts, LiesWithin};
+ghost use Rattle.rest_global.specs.Projection.{IsRestOfBox, KeepsSolutions};
 
 /// The solutions of a box that cost less than the bound are, on the open variables, exactly the solutions of its rest
 /// that cost less than the bound less the offset, and their costs differ by the offset.

@@ -3,10 +3,10 @@
 ghost use Rattle.std.specs.Prelude.{◌≡◌, ◌≤ℤ◌, ℤ, List, IfOk, length};
 ghost use Rattle.fzn_model.specs.Parts.{Parts};
 ghost use Rattle.fzn_model.specs.Solutions.{top};
-ghost use Rattle.fzn_model.specs.Boxes.{IsBox};
-ghost use Rattle.fzn_model.specs.Rests.{IsRest};
-ghost use Rattle.rest_global.specs.Projection.{rest_variables, LiesWithin, IsRestOfBox};
-ghost use Rattle.rest_global.specs.Projected.{IsProjected};
+ghost use Rattle.fzn_model.specs.Boxes.{IsBox, InBox};
+ghost use Rattle.fzn_model.specs.Rests.{IsRest, IsRestOf, LiesWithin};
+ghost use Rattle.rest_global.specs.Projection.{rest_variables, IsRestOfBox};
+ghost use Rattle.rest_global.specs.Projected.{IsProjected, IsOffset, MeansRest};
 ghost use Rattle.rest_global.specs.Making.{ArePlaces};
 
 use crate::cost::{cost_left, cost_offset};
@@ -57,21 +57,25 @@ fn rest_over<V: BoxView>(
 /// The rest and its offset.
 fn rest_of<V: BoxView>(alloc: Global, model: &Model, view: &V) -> Result<(Rest, i128), AllocError>
     requires { LiesWithin (V.shape view.now) model.now }
-    ensures { IfOk result (λ made. (below : ℤ) → IsRestOfBox (V.shape view.now) model.now below made.0 made.1) }
+    ensures exact { IfOk result (λ made. (below : ℤ) → IsRestOfBox (V.shape view.now) model.now below made.0 made.1) }
+    ensures means { IfOk result (λ made. (below : ℤ) → IsRestOf (InBox (V.shape view.now)) model.now below made.0 made.1) }
+    ensures offset { IfOk result (λ made. IsOffset made.1) }
 {
     let numbering = numbering_of(alloc, model.doms.as_slice().len() as u32, view)?;
-    rest_over(
+    let made = rest_over(
         alloc,
         model,
         numbering.variables.as_slice(),
         numbering.places.as_slice(),
         view,
-    )
+    )?;
+    Ok(made)
 }
 
 /// The rest where it has at most as many words as the limit.
 fn within_limit(rest: Rest, offset: i128, limit: u32) -> Projected
-    ensures { (box : List (List ℤ)) (m : Parts) (below : ℤ) → IsRestOfBox box m below rest offset → IsProjected box m below limit result }
+    ensures exact { (box : List (List ℤ)) (m : Parts) (below : ℤ) → IsRestOfBox box m below rest offset → IsProjected box m below limit result }
+    ensures means { (box : List (List ℤ)) (m : Parts) (below : ℤ) → IsRestOf (InBox box) m below rest offset → IsOffset offset → MeansRest box m below result }
 {
     let words = count(&rest);
     if words <= u64::from(limit) {
@@ -81,9 +85,10 @@ fn within_limit(rest: Rest, offset: i128, limit: u32) -> Projected
     }
 }
 
-/// What is left of a model in a box: the residual problem over the variables that are open there, with its offset. On
-/// the solutions of the box that cost less than the bound `below` it agrees with the model, and costs differ by the offset.
-/// Where it has more words than `limit`, the answer is how many. The one error is that memory runs out.
+/// What is left of a model in a box: the residual problem over the variables that are open there, with its offset, which
+/// lies in -2^100..2^100. It is a rest of what lies in the box: on the solutions that cost less than the bound `below` it
+/// agrees with the model, and costs differ by the offset. Where it has more words than `limit`, the answer is how many. The
+/// one error is that memory runs out.
 ///
 /// It goes once over the domains and over the constraints, and takes memory for what is left.
 pub fn project<V: BoxView>(
@@ -95,7 +100,8 @@ pub fn project<V: BoxView>(
 ) -> Result<Projected, AllocError>
     requires below { below ≤ℤ top model.now }
     requires within { LiesWithin (V.shape view.now) model.now }
-    ensures { IfOk result (λ answer. IsProjected (V.shape view.now) model.now below limit answer) }
+    ensures exact { IfOk result (λ answer. IsProjected (V.shape view.now) model.now below limit answer) }
+    ensures means { IfOk result (λ answer. MeansRest (V.shape view.now) model.now below answer) }
 {
     let (rest, offset) = rest_of(alloc, model, view)?;
     Ok(within_limit(rest, offset, limit))

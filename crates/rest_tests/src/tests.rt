@@ -8,7 +8,7 @@ use std::process::Abort;
 use std::test::Fail;
 
 /// The projection of all domains of a model, with its greatest bound.
-#[tactic(auto, using(dom_store::proofs::Made::none_empty, crate::proofs::Making::lies_within))]
+#[tactic(auto, using(dom_store::proofs::Made::none_empty, dom_store::proofs::Inside::lies_within))]
 fn project_all(alloc: Global, model: &Model, limit: u32) -> Result<Projected, Fail> {
     let Some(store) = Store::new(alloc, model)? else {
         return Err("a domain is empty")?;

@@ -4,10 +4,10 @@ use Rattle.std.specs.Prelude.{All, Contains, Option, IsSome}
 use Rattle.std.proofs.Math.ListN.{get_or-map}
 use Rattle.fzn_model.specs.Sets.{IsIn, IsWithin}
 use Rattle.fzn_model.specs.Parts.{Parts}
+use Rattle.fzn_model.specs.Rests.{LiesWithin}
 use Rattle.int_domain.specs.Values.{values_of, range}
 use Rattle.int_domain.proofs.Members.{Has, has_from_contains, has_range}
 use Rattle.dom_store.specs.Views.{box_of, box_count}
-use Rattle.rest_global.specs.Projection.{LiesWithin}
 
 -- the values of a set are in it
 either : (v : ℤ) (xs ys : List ℤ) → Has v (xs ++ ys) → Has v xs ⊎ Has v ys
