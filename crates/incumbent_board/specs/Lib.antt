@@ -1,2 +1,4 @@
 pub mod Right
 pub mod Verdict
+pub mod Passes
+pub mod Kept

@@ -1,0 +1,3 @@
+pub mod SlotTables
+pub mod Stocked
+pub mod ReadEntries

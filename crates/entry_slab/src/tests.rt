@@ -1,0 +1,119 @@
+ghost use Rattle.std.specs.Prelude.{◌≤ℤ◌, pos, IfOk};
+ghost use Rattle.fzn_model.specs.Rests.{IsTrueEntry};
+
+use crate::{Entry, ListShelf, NotKept, Reading, Shelf};
+use fzn_model::{List, Rest, Runs};
+use rest_key::dominates;
+use std::alloc::{AllocError, Global};
+use std::process::Abort;
+use std::test::Fail;
+
+/// The residual problem of one variable in this run, whose value is the cost. No solution costs less than the run's low.
+fn least_of(alloc: Global, run: &(i64, i64)) -> Result<Rest, AllocError>
+    requires low { pos 0 ≤ℤ run.now.0 }
+    requires some { run.now.0 ≤ℤ run.now.1 }
+    requires high { run.now.1 ≤ℤ pos 9 }
+    ensures { IfOk result (λ rest. IsTrueEntry rest run.now.0) }
+{
+    let runs = List::from_slice(alloc, &[*run])?;
+    let mut doms = List::new(alloc);
+    doms.push(Runs { runs })?;
+    let cost = List::from_slice(alloc, &[(1, 0)])?;
+    Ok(Rest {
+        doms,
+        cost,
+        cons: List::new(alloc),
+        labels: List::new(alloc),
+    })
+}
+
+/// The entry of the problem from 1 to 3.
+fn entry(alloc: Global) -> Result<Entry, AllocError> {
+    Ok(Entry::new(least_of(alloc, &(1, 3))?, 1))
+}
+
+/// What an entry tells of itself; the digests are those of the words 1 1 1 3 1 1 0 0.
+#[test]
+fn entries(rt: HostRuntime) -> Result<(), Fail> {
+    let entry = entry(rt.alloc())?;
+    assert_eq!(rt;
+        (entry.bound(), entry.near(), entry.far()),
+        (1, 14_882_483_951_933_314_045, 8_025_024_995_210_706_130)
+    );
+    let same = least_of(rt.alloc(), &(1, 3))?;
+    assert!(rt; dominates(entry.rest(), &same) && dominates(&same, entry.rest()));
+    Ok(())
+}
+
+/// A problem that the entry is read for: its own, or one with a value more or fewer.
+#[derive(Clone, Copy)]
+enum Asked {
+    Same,
+    More,
+    Fewer,
+}
+
+/// A call of a shelf, with what is to be answered.
+#[derive(Clone, Copy)]
+enum Step {
+    Put(Option<u64>),
+    With(u64, Asked, i128, Reading),
+    Remove(u64),
+}
+
+fn problem(alloc: Global, asked: Asked) -> Result<Rest, AllocError> {
+    match asked {
+        Asked::Same => least_of(alloc, &(1, 3)),
+        Asked::More => least_of(alloc, &(0, 3)),
+        Asked::Fewer => least_of(alloc, &(2, 3)),
+    }
+}
+
+fn take(rt: &impl Abort, alloc: Global, shelf: &mut impl Shelf, step: Step) -> Result<(), Fail> {
+    match step {
+        Step::Put(kept) => match shelf.put(entry(alloc)?) {
+            Ok(key) => assert_eq!(rt; kept, Some(key)),
+            Err(NotKept) => assert!(rt; kept.is_none()),
+        },
+        Step::With(key, asked, need, reading) => {
+            let rest = problem(alloc, asked)?;
+            assert_eq!(rt; shelf.with(key, &rest, need), reading);
+        }
+        Step::Remove(key) => shelf.remove(key),
+    }
+    Ok(())
+}
+
+fn follow(
+    rt: &impl Abort,
+    alloc: Global,
+    shelf: &mut impl Shelf,
+    steps: &[Step],
+) -> Result<(), Fail> {
+    for step in steps {
+        take(rt, alloc, shelf, *step)?;
+    }
+    Ok(())
+}
+
+/// The room, every which call of `with` is lost, and the calls.
+type Row = (u32, u32, &'static [Step]);
+
+#[rattlefmt::skip]
+static SHELVES: [Row; 5] = [
+    (1, 0, &[Step::Put(Some(0)), Step::Put(None), Step::With(0, Asked::Same, 1, Reading::Hit(1)), Step::With(0, Asked::Same, 2, Reading::Weak(1)), Step::With(0, Asked::Fewer, -5, Reading::Hit(1)), Step::With(0, Asked::More, 1, Reading::Unlike)]),
+    (1, 0, &[Step::Put(Some(0)), Step::Remove(0), Step::With(0, Asked::Same, 1, Reading::Gone), Step::Put(Some(1)), Step::With(0, Asked::Same, 1, Reading::Gone), Step::With(1, Asked::Same, 1, Reading::Hit(1))]),
+    (2, 0, &[Step::Put(Some(1)), Step::Put(Some(2)), Step::Put(None), Step::Remove(1), Step::Put(Some(5)), Step::With(2, Asked::Same, 1, Reading::Hit(1)), Step::With(1, Asked::Same, 1, Reading::Gone), Step::With(5, Asked::Same, 1, Reading::Hit(1))]),
+    (1, 2, &[Step::Put(Some(0)), Step::With(0, Asked::Same, 1, Reading::Hit(1)), Step::With(0, Asked::Same, 1, Reading::Gone), Step::With(0, Asked::Same, 1, Reading::Hit(1)), Step::With(0, Asked::Same, 1, Reading::Gone)]),
+    (0, 1, &[Step::Put(None), Step::Remove(0), Step::With(0, Asked::Same, 1, Reading::Gone), Step::With(0, Asked::Same, 1, Reading::Gone)]),
+];
+
+/// A full shelf, a key that is given again, a lost call, and no room at all.
+#[test]
+fn shelves(rt: HostRuntime) -> Result<(), Fail> {
+    for (room, lose, steps) in &SHELVES {
+        let mut shelf = ListShelf::new(rt.alloc(), *room, *lose)?;
+        follow(&rt, rt.alloc(), &mut shelf, steps)?;
+    }
+    Ok(())
+}
