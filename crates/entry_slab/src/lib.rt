@@ -30,6 +30,3 @@ pub use entry::Entry;
 pub use list_shelf::ListShelf;
 pub use reading::Reading;
 pub use shelf::{NotKept, Shelf};
-
-#[cfg(test)]
-mod tests;

@@ -24,8 +24,6 @@ mod board_pass;
 mod credit;
 mod options;
 mod outcome;
-#[cfg(test)]
-mod tests;
 mod totals;
 mod why;
 

@@ -12,9 +12,10 @@
 //! `NotAllowed` exactly where no such change is possible. Three laws on sizes and one on boxes are public functions without
 //! parameters.
 //!
-//! What it costs: a path of at most eight decisions needs no allocator. A `Local` stores what its paths share once, so its
-//! memory grows with the depth of the search and not with the square of it; a move of a depth-first search looks at the
-//! newest tasks alone and at the length of its path.
+//! What it costs: a path of at most eight decisions needs no allocator. A `Local` stores once what the two sides of each
+//! cut share, so its memory grows with the depth of the search and not with the square of it. A move of a depth-first
+//! search finds its tasks among the newest and compares at most the length of its path; one that takes tasks away looks
+//! at each task once.
 //!
 //! What it stands on: fzn_model for models and assignments, int_domain for the values of a set, smallvec for short paths,
 //! thiserror.
@@ -34,8 +35,6 @@ mod tree;
 
 // What follows from the definitions alone.
 mod laws;
-#[cfg(test)]
-mod tests;
 
 pub use decision::Decision;
 pub use fault::StepFault;

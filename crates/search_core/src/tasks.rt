@@ -21,7 +21,7 @@ pub(crate) struct Entry {
     stand: Stand,
 }
 
-/// Paths and how each stands. Contracts see the list of tasks. What paths share is stored once: their decisions are a tree.
+/// Paths and how each stands. Contracts see the list of tasks. The sides of a cut share their path: their decisions are a tree.
 #[derive(Drop)]
 pub(crate) struct Tasks {
     tree: Tree,

@@ -1,4 +1,4 @@
-use crate::{Decision, Local, Move, Path, StepFault};
+use search_core::{Decision, Local, Move, Path, StepFault};
 use std::alloc::{AllocError, Global};
 use std::process::Abort;
 use std::test::Fail;

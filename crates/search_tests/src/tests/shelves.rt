@@ -1,31 +1,10 @@
-ghost use Rattle.std.specs.Prelude.{◌≤ℤ◌, pos, IfOk};
-ghost use Rattle.fzn_model.specs.Rests.{IsTrueEntry};
-
-use crate::{Entry, ListShelf, NotKept, Reading, Shelf};
-use fzn_model::{List, Rest, Runs};
+use crate::tests::problems::least_of;
+use entry_slab::{Entry, ListShelf, NotKept, Reading, Shelf};
+use fzn_model::Rest;
 use rest_key::dominates;
 use std::alloc::{AllocError, Global};
 use std::process::Abort;
 use std::test::Fail;
-
-/// The residual problem of one variable in this run, whose value is the cost. No solution costs less than the run's low.
-fn least_of(alloc: Global, run: &(i64, i64)) -> Result<Rest, AllocError>
-    requires low { pos 0 ≤ℤ run.now.0 }
-    requires some { run.now.0 ≤ℤ run.now.1 }
-    requires high { run.now.1 ≤ℤ pos 9 }
-    ensures { IfOk result (λ rest. IsTrueEntry rest run.now.0) }
-{
-    let runs = List::from_slice(alloc, &[*run])?;
-    let mut doms = List::new(alloc);
-    doms.push(Runs { runs })?;
-    let cost = List::from_slice(alloc, &[(1, 0)])?;
-    Ok(Rest {
-        doms,
-        cost,
-        cons: List::new(alloc),
-        labels: List::new(alloc),
-    })
-}
 
 /// The entry of the problem from 1 to 3.
 fn entry(alloc: Global) -> Result<Entry, AllocError> {

@@ -1,7 +1,7 @@
 ghost use Rattle.std.specs.Prelude.{◌≡◌, ◌^◌, ◌≤◌};
 ghost use Rattle.incumbent_board.specs.Passes.{SamePass, IsAlone};
 
-use crate::{Board, BoardPass, Why};
+use incumbent_board::{Board, BoardPass, Why};
 use std::process::Abort;
 use std::test::Fail;
 

@@ -1,0 +1,4 @@
+pub mod Scanning
+pub mod Tidying
+pub mod Serving
+pub mod Scans
