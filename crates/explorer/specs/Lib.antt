@@ -1,0 +1,15 @@
+pub mod Benches
+pub mod Offers
+pub mod Nodes
+pub mod Expansions
+pub mod Holding
+pub mod Telling
+pub mod Works
+pub mod Explored
+pub mod Frames
+pub mod Looking
+pub mod Walking
+pub mod Opening
+pub mod Turns
+pub mod Going
+pub mod Ending
