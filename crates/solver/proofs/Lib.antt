@@ -1,0 +1,3 @@
+mod Offered
+mod Answering
+mod Starting
