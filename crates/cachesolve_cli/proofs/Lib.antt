@@ -1,4 +1,2 @@
-pub mod Solving
-pub mod Nearness
 pub mod Loading
 pub mod Endings

@@ -1,4 +1,3 @@
-pub mod Covering
 pub mod Ways
 pub mod Headline
 pub mod Stages

@@ -21,3 +21,16 @@ abbrev pub IsRead : Ending → Type 0
 IsRead ending.WrongWords = ⊥
 IsRead ending.ReadFailed = ⊥
 IsRead e = ⊤
+
+-- a way to end once the answer was written
+abbrev pub IsAnswered : Ending → Type 0
+IsAnswered ending.Decided = ⊤
+IsAnswered (ending.Undecided why) = ⊤
+IsAnswered e = ⊥
+
+-- a way to end without a word on the output
+abbrev pub IsSilent : Ending → Type 0
+IsSilent ending.Decided = ⊥
+IsSilent (ending.Undecided why) = ⊥
+IsSilent ending.WriteFailed = ⊥
+IsSilent e = ⊤

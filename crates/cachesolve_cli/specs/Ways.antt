@@ -5,6 +5,7 @@ use Rattle.fzn_reader.specs.declared.code.Code.{Code}
 use Rattle.fzn_reader.specs.declared.code.Code.TheVariants as code
 use Rattle.fzn_reader.specs.declared.refused.Refused.{Refused}
 use Rattle.fzn_reader.specs.Reading.{reads}
+use Rattle.incumbent_board.specs.declared.why.Why.TheVariants as why
 use Rattle.solution_out.specs.Refusals.{refusal_text}
 use Rattle.cachesolve_cli.specs.declared.ending.Ending.{Ending}
 use Rattle.cachesolve_cli.specs.declared.ending.Ending.TheVariants as ending
@@ -34,6 +35,8 @@ token_of r bytes = take (r.to - r.from) (drop r.from bytes)
 abbrev pub status_of : Ending → ℕ
 status_of ending.Decided = 0
 status_of ending.WrongWords = 2
+status_of (ending.Undecided why.Budget) = 3
+status_of (ending.Undecided why.Memory) = 4
 status_of ending.NoMemory = 4
 status_of (ending.Refused r token) = 5
 status_of ending.ReadFailed = 6
@@ -42,6 +45,8 @@ status_of ending.WriteFailed = 7
 -- the message
 abbrev pub message_of : Ending → List ℕ
 message_of ending.Decided = []
+message_of (ending.Undecided why.Budget) = []
+message_of (ending.Undecided why.Memory) = codes "cachesolve: out of memory\n"
 message_of ending.WrongWords = codes "cachesolve: wrong words\n"
 message_of ending.NoMemory = codes "cachesolve: out of memory\n"
 message_of (ending.Refused r token) = refusal_text r.line (name_of r.code) token.now

@@ -4,12 +4,15 @@ ghost use Rattle.cachesolve_cli.specs.Ways.{name_of, status_of, message_of};
 
 use cs_base::{Failed, Sink, write_whole};
 use fzn_parser::{Code, Refused};
+use incumbent_board::Why;
 use solution_out::write_refusal;
 
 /// How a run ends.
 #[derive(Clone, Copy, Debug)]
 pub enum Ending<'a> {
     Decided,
+    /// The answer is undecided, and was written.
+    Undecided(Why),
     WrongWords,
     NoMemory,
     /// The model is refused, with the bytes of the token that shows it, none at the end of the input.
@@ -48,6 +51,8 @@ impl Ending<'_> {
         match self {
             Ending::Decided => 0,
             Ending::WrongWords => 2,
+            Ending::Undecided(Why::Budget) => 3,
+            Ending::Undecided(Why::Memory) => 4,
             Ending::NoMemory => 4,
             Ending::Refused(_, _) => 5,
             Ending::ReadFailed => 6,
@@ -55,13 +60,14 @@ impl Ending<'_> {
         }
     }
 
-    /// Appends the message, nothing where the run was decided.
+    /// Appends the message, nothing where the run was decided or its node budget was spent.
     pub fn tell<E: Sink>(&self, err: &mut E) -> Result<(), Failed>
         ensures text { AppendsPart (E.written err.old) (E.written err.new) (message_of self.now) result }
         ensures cause { HasCause (E.faults err.old) (E.faults err.new) result }
     {
         match self {
-            Ending::Decided => write_whole(err, b""),
+            Ending::Decided | Ending::Undecided(Why::Budget) => write_whole(err, b""),
+            Ending::Undecided(Why::Memory) => write_whole(err, b"cachesolve: out of memory\n"),
             Ending::WrongWords => write_whole(err, b"cachesolve: wrong words\n"),
             Ending::NoMemory => write_whole(err, b"cachesolve: out of memory\n"),
             Ending::Refused(refused, token) => {

@@ -1,22 +1,19 @@
 //! The program: a FlatZinc file from standard input, its answer on standard output.
 //!
 //! What it is for: [`running::run`] is the one call that the program makes, and the place where all that is promised to a
-//! user stands. It solves by trying each assignment.
+//! user stands.
 //!
 //! What it promises: a run that ends with status 0 has written exactly the text of a right answer for the model of its
-//! input, each other status has its cause and its message, and a model is decided where memory and the calls of the system
-//! allow. `specs/Headline.antt` has the words of these promises, `specs/Ways.antt` the statuses and messages of a run, and
+//! input, each other status has its cause and its message, and a model is decided where memory, the node budget and the calls
+//! of the system allow. `specs/Headline.antt` has the words of these promises, `specs/Ways.antt` the statuses and messages of a run, and
 //! `specs/Words.antt` those where the program's words can't be had.
 //!
-//! What it stands on: cs_base, fzn_model, fzn_parser, incumbent_board, solution_out. That `main` asks the system for the words, and
+//! What it stands on: cs_base, fzn_model, fzn_parser, solver, solution_out. That `main` asks the system for the words, and
 //! hands them with the real input and outputs to `run`, is trusted; what it makes of them is proved.
 #![tactic(auto)]
 
 ghost use Rattle.std.specs.Prelude.{◌≡◌};
 ghost use Rattle.std.specs.Process.{exit_status};
-
-// From a model to an answer.
-mod search;
 
 // The whole run.
 mod ending;
@@ -29,6 +26,7 @@ mod tests;
 
 use cs_base::{Status, StdSink, StdSource, Words};
 use program_words::{WordsFault, behind_name, cause_of, end_without};
+use solver::Meter;
 use std::process::ExitCode;
 use std::{env, io};
 
@@ -55,6 +53,15 @@ fn main(rt: HostRuntime) -> ExitCode {
     };
     let mut source = StdSource::new(&rt);
     let mut out = StdSink::new(io::writer(&rt));
-    let status = running::run(&rt, rt.alloc(), &words, &mut source, &mut out, &mut err);
+    let mut meter = Meter::new();
+    let status = running::run(
+        &rt,
+        rt.alloc(),
+        &words,
+        &mut source,
+        &mut out,
+        &mut err,
+        &mut meter,
+    );
     exit_code(status)
 }

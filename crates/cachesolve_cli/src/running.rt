@@ -1,16 +1,18 @@
-ghost use Rattle.std.specs.Prelude.{◌≡◌, ◌⊎◌, ◌↔◌, [], IfOk, IfErr, Err, Some, take, drop};
+ghost use Rattle.std.specs.Prelude.{◌≡◌, ◌⊎◌, ◌↔◌, ◌≤◌, ◌^◌, [], IfOk, IfErr, Err, Some, take, drop};
 ghost use Rattle.std.specs.Io.KnownBytes.{Appends, Keeps};
 ghost use Rattle.cs_base.specs.Causes.{Rose, AppendsFront};
-ghost use Rattle.cachesolve_cli.specs.Headline.{IsDecidedRun, IsCutRun, IsModelFile, IsModelStatus, IsRefusedFile, IsRefusalStatus, IsTold};
+ghost use Rattle.cachesolve_cli.specs.Headline.{IsDecidedRun, IsBudgetRun, IsMemoryRun, IsCutRun, IsModelFile, IsModelStatus, IsRefusedFile, IsRefusalStatus, IsTold};
 ghost use Rattle.cachesolve_cli.specs.Ways.{token_of, status_of, message_of, EndsOver};
-ghost use Rattle.cachesolve_cli.specs.Stages.{IsAll, IsUnread, IsRead};
+ghost use Rattle.incumbent_board.specs.Right.{IsDecided};
+ghost use Rattle.solver.specs.Outcomes.{LacksBudget, LacksMemory};
+ghost use Rattle.cachesolve_cli.specs.Stages.{IsAll, IsUnread, IsRead, IsAnswered, IsSilent};
 ghost use Rattle.cachesolve_cli.specs.declared.ending.Ending.TheVariants as ending;
 
 use crate::ending::Ending;
-use crate::search::solve;
 use cs_base::{ReadFault, Sink, Source, Status, Whole, Words, read_all};
 use fzn_parser::{Code, ParseFault, Refused, parse};
 use solution_out::write_answer;
+use solver::{Answer, Meter, Options, Why, solve};
 use std::alloc::Global;
 use std::thread::Threads;
 
@@ -73,11 +75,42 @@ fn token_of(refused: Refused, bytes: &[u8]) -> &[u8]
     front(behind(bytes, refused.from as usize), count as usize)
 }
 
+/// How a search is made: by one worker, with 65,536 ways of the cache, keys of at most 512 words, and at most 1,000,000,000
+/// nodes.
+const DEFAULTS: Options = Options {
+    workers: 1,
+    ways: 65_536,
+    key_words: 512,
+    nodes: 1_000_000_000,
+};
+
+/// How a run ends whose answer was written.
+fn ending_of(answer: &Answer) -> Ending<'static>
+    ensures decided { result ≡ ending.Decided → IsDecided answer.now }
+    ensures budget { result ≡ ending.Undecided Why.Budget → LacksBudget answer.now }
+    ensures memory { result ≡ ending.Undecided Why.Memory → LacksMemory answer.now }
+    ensures which { IsAnswered result }
+{
+    match answer {
+        Answer::Undecided(_, why) => Ending::Undecided(*why),
+        Answer::Unsat | Answer::Sat(_) | Answer::Best(_) => Ending::Decided,
+    }
+}
+
 /// Reads the model, solves it, and writes the answer.
-fn proceed<'a, O: Sink>(alloc: Global, bytes: &'a [u8], out: &mut O) -> Ending<'a>
-    ensures decided { result ≡ ending.Decided → IsDecidedRun (Some bytes.now) (O.written out.old) (O.written out.new) }
-    ensures cut { result ≡ ending.WriteFailed → IsCutRun (Some bytes.now) (O.written out.old) (O.written out.new) }
-    ensures silent { (result ≡ ending.Decided → ⊥) → (result ≡ ending.WriteFailed → ⊥) → Keeps (O.written out.old) (O.written out.new) }
+fn proceed<'a, R: Threads + Sync, O: Sink>(
+    rt: &R,
+    alloc: Global,
+    bytes: &'a [u8],
+    out: &mut O,
+    meter: &mut Meter,
+) -> Ending<'a>
+    requires meter { (meter.old.count ≤ 2 ^ 100) × (meter.old.closed ≤ 2 ^ 100) }
+    ensures decided { result ≡ ending.Decided → IsDecidedRun (Some bytes.now) meter.old meter.new (O.written out.old) (O.written out.new) }
+    ensures cut { result ≡ ending.WriteFailed → IsCutRun (Some bytes.now) meter.old meter.new (O.written out.old) (O.written out.new) }
+    ensures budget { result ≡ ending.Undecided Why.Budget → IsBudgetRun (Some bytes.now) meter.old meter.new (O.written out.old) (O.written out.new) }
+    ensures memory { result ≡ ending.Undecided Why.Memory → IsMemoryRun (Some bytes.now) meter.old meter.new (O.written out.old) (O.written out.new) }
+    ensures silent { IsSilent result → Keeps (O.written out.old) (O.written out.new) }
     ensures ends { EndsOver (Some bytes.now) result }
     ensures which { IsRead result }
     ensures write { result ≡ ending.WriteFailed → Rose (O.faults out.old) (O.faults out.new) }
@@ -90,11 +123,11 @@ fn proceed<'a, O: Sink>(alloc: Global, bytes: &'a [u8], out: &mut O) -> Ending<'
         }
         Err(ParseFault::NoMemory) => return Ending::NoMemory,
     };
-    let Ok(answer) = solve(alloc, &model) else {
+    let Ok(outcome) = solve(rt, alloc, &model, &DEFAULTS, meter) else {
         return Ending::NoMemory;
     };
-    match write_answer(out, &model, &answer) {
-        Ok(()) => Ending::Decided,
+    match write_answer(out, &model, &outcome.answer) {
+        Ok(()) => ending_of(&outcome.answer),
         Err(_) => Ending::WriteFailed,
     }
 }
@@ -111,7 +144,7 @@ fn finish<E: Sink>(end: &Ending, err: &mut E) -> Status
 /// One call of the program: reads a FlatZinc file from standard input, solves it, and writes the answer.
 ///
 /// The words are refused where there are any. Want of memory ends with status 4; no clause says when it comes.
-#[tactic(auto, using(crate::proofs::Endings::decided, crate::proofs::Endings::wrong_words, crate::proofs::Endings::unread_model, crate::proofs::Endings::unread_refused, crate::proofs::Endings::read_model, crate::proofs::Endings::read_refused, crate::proofs::Endings::read_failed, crate::proofs::Endings::write_failed, crate::proofs::Endings::decided_over, crate::proofs::Endings::cut_over, crate::proofs::Endings::ends_over))]
+#[tactic(auto, using(crate::proofs::Endings::decided, crate::proofs::Endings::wrong_words, crate::proofs::Endings::budget_spent, crate::proofs::Endings::read_failed, crate::proofs::Endings::write_failed, crate::proofs::Endings::unread_model, crate::proofs::Endings::unread_refused, crate::proofs::Endings::read_model, crate::proofs::Endings::read_refused, crate::proofs::Endings::decided_over, crate::proofs::Endings::cut_over, crate::proofs::Endings::budget_over, crate::proofs::Endings::memory_wanting, crate::proofs::Endings::ends_over, crate::proofs::Endings::silent, crate::proofs::Endings::told_words))]
 pub fn run<R: Threads + Sync, S: Source, O: Sink, E: Sink>(
     rt: &R,
     alloc: Global,
@@ -119,9 +152,18 @@ pub fn run<R: Threads + Sync, S: Source, O: Sink, E: Sink>(
     source: &mut S,
     out: &mut O,
     err: &mut E,
+    meter: &mut Meter,
 ) -> Status
-    // The headline: a decided run writes exactly the text of a right answer for the model that it read.
-    ensures decided { result.code ≡ 0 → IsDecidedRun (S.left source.old) (O.written out.old) (O.written out.new) }
+    requires meter { (meter.old.count ≤ 2 ^ 100) × (meter.old.closed ≤ 2 ^ 100) }
+
+    // The headline: a decided run writes exactly the text of a right answer for the model that it read, and that answer is
+    // what listing all assignments would say.
+    ensures decided { result.code ≡ 0 → IsDecidedRun (S.left source.old) meter.old meter.new (O.written out.old) (O.written out.new) }
+
+    // A run is undecided only where its node budget was spent, which is smaller than the number of assignments, or for want
+    // of memory; what it writes then is right.
+    ensures budget { result.code ≡ 3 → IsBudgetRun (S.left source.old) meter.old meter.new (O.written out.old) (O.written out.new) }
+    ensures memory { result.code ≡ 4 → IsMemoryRun (S.left source.old) meter.old meter.new (O.written out.old) (O.written out.new) }
 
     // Status 2 exactly where there are words.
     ensures words { (result.code ≡ 2) ↔ (words.now ≡ [] → ⊥) }
@@ -136,9 +178,9 @@ pub fn run<R: Threads + Sync, S: Source, O: Sink, E: Sink>(
     ensures write { result.code ≡ 7 → Rose (O.faults out.old) (O.faults out.new) }
     ensures write_kept { (result.code ≡ 7 → ⊥) → O.faults out.new ≡ O.faults out.old }
 
-    // A failed write leaves a part at the front of such a text; every other status but 0 leaves what was written.
-    ensures cut { result.code ≡ 7 → IsCutRun (S.left source.old) (O.written out.old) (O.written out.new) }
-    ensures silent { (result.code ≡ 0 → ⊥) → (result.code ≡ 7 → ⊥) → Keeps (O.written out.old) (O.written out.new) }
+    // A failed write leaves a part at the front of such a text; statuses 2, 5 and 6 leave what was written.
+    ensures cut { result.code ≡ 7 → IsCutRun (S.left source.old) meter.old meter.new (O.written out.old) (O.written out.new) }
+    ensures silent { (result.code ≡ 2) ⊎ (result.code ≡ 5) ⊎ (result.code ≡ 6) → Keeps (O.written out.old) (O.written out.new) }
 
     // What is said on `err`, and which statuses there are.
     ensures told { IsTold (S.left source.old) (E.written err.old) (E.written err.new) (E.faults err.old) (E.faults err.new) result.code }
@@ -150,6 +192,6 @@ pub fn run<R: Threads + Sync, S: Source, O: Sink, E: Sink>(
         Ok(bytes) => bytes,
         Err(end) => return finish(&end, err),
     };
-    let end = proceed(alloc, bytes.as_slice(), out);
+    let end = proceed(rt, alloc, bytes.as_slice(), out, meter);
     finish(&end, err)
 }

@@ -2,6 +2,7 @@ ghost use Rattle.std.specs.Prelude.{◌≤◌};
 
 use crate::running::run;
 use cs_base::{MemSink, MemSource, Words};
+use solver::Meter;
 use std::alloc::{AllocError, Global};
 use std::test::Fail;
 use std::thread::Threads;
@@ -34,7 +35,16 @@ fn run_on<R: Threads + Sync>(
     );
     let mut out = MemSink::new(alloc, 1000, 1, vec![in alloc; write_fails]?)?;
     let mut err = MemSink::new(alloc, 1000, 1000, Vec::new(alloc))?;
-    let status = run(rt, alloc, &words, &mut source, &mut out, &mut err);
+    let mut meter = Meter::new();
+    let status = run(
+        rt,
+        alloc,
+        &words,
+        &mut source,
+        &mut out,
+        &mut err,
+        &mut meter,
+    );
     Ok(Run {
         code: status.code,
         out: Vec::from_slice(alloc, out.bytes())?,
@@ -133,7 +143,16 @@ fn words_are_refused(rt: HostRuntime) -> Result<(), Fail> {
     let mut source = MemSource::new(Vec::from_slice(alloc, LEAST)?, 1, Vec::new(alloc));
     let mut out = MemSink::new(alloc, 1000, 1, Vec::new(alloc))?;
     let mut err = MemSink::new(alloc, 1000, 1000, Vec::new(alloc))?;
-    let status = run(&rt, alloc, &words, &mut source, &mut out, &mut err);
+    let mut meter = Meter::new();
+    let status = run(
+        &rt,
+        alloc,
+        &words,
+        &mut source,
+        &mut out,
+        &mut err,
+        &mut meter,
+    );
     assert_eq!(rt; status.code, 2);
     assert_eq!(rt; out.bytes().len(), 0);
     assert_eq!(rt; err.bytes(), b"cachesolve: wrong words\n".as_slice());
