@@ -1,6 +1,8 @@
 -- Members within an interval take its free numbers away from all others.
 use Rattle.std.proofs.Common.{◌≡◌, ℕ, zero, suc, ◌+◌, ◌<◌, ◌≤◌, ◌⊎◌, List, [], ◌∷◌, length, sym, ap, subst, ◌∙◌, arith, inl, inr, true, false, Bool, cond, map}
 use Rattle.std.specs.Prelude.{ℤ, pos, ◌≤ℤ◌, ◌<ℤ◌, int_le, filter, slice_index_or, AllPairs, Contains}
+use Rattle.std.specs.List.{IsDistinct}
+use Rattle.std.specs.Ordering.{int_eq}
 use Rattle.std.proofs.lemmas.Int.{ints, by_lt_z}
 use Rattle.std.proofs.lemmas.Bool.{false≢true, and_parts, and_from, cases_order, cases_lt}
 use Rattle.std.proofs.lemmas.List.{get_or_default, length-map}
@@ -15,6 +17,7 @@ use Rattle.dom_store.specs.Stores.{Stored}
 use Rattle.dom_store.specs.Narrowing.{HasNone, Prunes}
 use Rattle.fzn_model.specs.Bounds.{term_low, term_high}
 use Rattle.dom_store.specs.Strength.{is_inside, inside_count, free_count}
+use Rattle.fzn_model.proofs.Pigeons.{distinct_none}
 use Rattle.fzn_model.proofs.Terms.{val_low, val_high}
 use Rattle.dom_store.proofs.Laws.{low_rises, high_falls}
 use Rattle.alldiff_prop.specs.Rising.{Climbs, how_many_to}
@@ -22,7 +25,7 @@ use Rattle.alldiff_prop.specs.Members.{IsReady}
 use Rattle.alldiff_prop.specs.Highs.{IsHighs}
 use Rattle.alldiff_prop.specs.Fulls.{HasOverfull, AreFullsTo}
 use Rattle.alldiff_prop.specs.Halls.{AreFull}
-use Rattle.alldiff_prop.proofs.Pigeons.{NoRepeat}
+use Rattle.alldiff_prop.proofs.Pigeons.{has_more}
 use Rattle.alldiff_prop.proofs.Counting.{found, front_passes, fewer}
 use Rattle.alldiff_prop.proofs.Free.{free_fits, free_filled}
 
@@ -36,12 +39,12 @@ pub is_inside_from : (box : List (List ℤ)) (low high : ℤ) (t : Term) → low
 is_inside_from box low high t from to = and_from (int_le low (term_low box t)) (int_le (term_high box t) high) (test_from_le low (term_low box t) from) (test_from_le (term_high box t) high to)
 
 -- values that differ in pairs still do where some members are left out
-values_by : (p : Term → Bool) (θ : List ℤ) (x : Term) (xs : List Term) (t : Bool) → ((Has (val x θ) (map (λ y. val y θ) (filter p xs))) → ⊥) → NoRepeat (map (λ y. val y θ) (filter p xs)) → NoRepeat (map (λ y. val y θ) (cond t (x ∷ filter p xs) (filter p xs)))
-values_by p θ x xs true new rest = (new, rest)
+values_by : (p : Term → Bool) (θ : List ℤ) (x : Term) (xs : List Term) (t : Bool) → ((Has (val x θ) (map (λ y. val y θ) (filter p xs))) → ⊥) → IsDistinct int_eq (map (λ y. val y θ) (filter p xs)) → IsDistinct int_eq (map (λ y. val y θ) (cond t (x ∷ filter p xs) (filter p xs)))
+values_by p θ x xs true new rest = has_more (val x θ) (map (λ y. val y θ) (filter p xs)) new rest
 values_by p θ x xs false new rest = rest
 
-values_apart : (p : Term → Bool) (θ : List ℤ) (xs : List Term) → AllPairs (λ x y. val x θ ≡ val y θ → ⊥) xs → NoRepeat (map (λ y. val y θ) (filter p xs))
-values_apart p θ [] apart = tt
+values_apart : (p : Term → Bool) (θ : List ℤ) (xs : List Term) → AllPairs (λ x y. val x θ ≡ val y θ → ⊥) xs → IsDistinct int_eq (map (λ y. val y θ) (filter p xs))
+values_apart p θ [] apart = distinct_none
 values_apart p θ (x ∷ xs) apart =
     values_by p θ x xs (p x)
     (λ h. let at = found p (λ y. val y θ) xs (val x θ) h in apart zero (suc at.0) x (omega arith) (omega (arith, at.1)) (sym (at.2 x)))
@@ -52,7 +55,7 @@ module _ (box : List (List ℤ)) (xs : List Term) (taken : List ℤ) (low high :
   abbrev values_within : List ℤ
   values_within = map (λ y. val y θ) (filter (is_inside box low high) xs)
 
-  within_apart : NoRepeat values_within
+  within_apart : IsDistinct int_eq values_within
   unfolding AreDistinct
   within_apart = values_apart (is_inside box low high) θ xs holds.0
 

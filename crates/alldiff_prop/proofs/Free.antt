@@ -2,7 +2,7 @@
 use Rattle.std.proofs.Common.{◌≡◌, ℕ, zero, suc, ◌+◌, ◌≤◌, List, [], ◌∷◌, length, refl, sym, ap, subst, ◌∙◌, arith, inl, inr, true, Bool}
 use Rattle.std.specs.Prelude.{ℤ, pos, ◌+ℤ◌, ◌<ℤ◌, ◌≤ℤ◌, int_le, not, ◌&&◌, filter, Contains}
 use Rattle.std.specs.Int.{int_gap}
-use Rattle.std.specs.List.{list_any}
+use Rattle.std.specs.List.{list_any, IsDistinct}
 use Rattle.std.specs.Ordering.{int_eq}
 use Rattle.std.proofs.lemmas.Int.{ints}
 use Rattle.std.proofs.lemmas.Bool.{false≢true, false_from_ne_true, not-true, not_from_false, and_parts, and_from, cases_Bool}
@@ -14,10 +14,11 @@ use Rattle.int_domain.specs.Values.{range, numbers_from}
 use Rattle.std.proofs.lemmas.List.Elements.{recursion_from_All}
 use Rattle.int_domain.proofs.Members as members
 use Rattle.int_domain.proofs.Narrowed.{le_from_test, test_from_le}
-use Rattle.int_domain.proofs.Members.{Has, has_filter, filter_has, has_range, range_has, rises_range, rises_filter, gap_is}
+use Rattle.int_domain.proofs.Members.{Has, has_filter, filter_has, has_range, range_has, rises_range, rises_filter, gap_is, contains_from_has, has_from_contains}
+use Rattle.fzn_model.proofs.Pigeons.{distinct_none}
 use Rattle.dom_store.specs.Strength.{free_count}
 use Rattle.alldiff_prop.specs.Rising.{Rises, IsRising, how_many_within}
-use Rattle.alldiff_prop.proofs.Pigeons.{NoRepeat, rises_apart, pigeons, pigeons_fill, same_length, has_at, at_has}
+use Rattle.alldiff_prop.proofs.Pigeons.{has_more, rises_apart, pigeons, pigeons_fill, same_length}
 
 -- ---- being taken as a test
 abbrev pub is_taken : List ℤ → ℤ → Bool
@@ -51,15 +52,15 @@ has_free taken low high z h =
 pub free_has : (taken : List ℤ) (low high z : ℤ) → low ≤ℤ z → z ≤ℤ high → (Contains taken z → ⊥) → Has z (free_list taken low high)
 free_has taken low high z from to free = filter_has (is_free taken) (range low high) z (range_has low high z from to) (free_test taken z free)
 
-pub free_apart : (taken : List ℤ) (low high : ℤ) → NoRepeat (free_list taken low high)
+pub free_apart : (taken : List ℤ) (low high : ℤ) → IsDistinct int_eq (free_list taken low high)
 free_apart taken low high = rises_apart (free_list taken low high) (rises_filter (is_free taken) (range low high) (rises_range low high))
 
 -- numbers that differ, each of them free in low..high, are no more than those that are free there
-pub free_fits : (taken : List ℤ) (low high : ℤ) (xs : List ℤ) → NoRepeat xs → ((v : ℤ) → Has v xs → (low ≤ℤ v) × (v ≤ℤ high) × (Contains taken v → ⊥)) → length xs ≤ free_count taken low high
+pub free_fits : (taken : List ℤ) (low high : ℤ) (xs : List ℤ) → IsDistinct int_eq xs → ((v : ℤ) → Has v xs → (low ≤ℤ v) × (v ≤ℤ high) × (Contains taken v → ⊥)) → length xs ≤ free_count taken low high
 free_fits taken low high xs apart inside = pigeons xs (free_list taken low high) apart (λ v h. let i = inside v h in free_has taken low high v i.0 i.1 i.2)
 
 -- where they are as many, no other is free there
-pub free_filled : (taken : List ℤ) (low high : ℤ) (xs : List ℤ) (z : ℤ) → NoRepeat xs → ((v : ℤ) → Has v xs → (low ≤ℤ v) × (v ≤ℤ high) × (Contains taken v → ⊥)) → free_count taken low high ≤ length xs
+pub free_filled : (taken : List ℤ) (low high : ℤ) (xs : List ℤ) (z : ℤ) → IsDistinct int_eq xs → ((v : ℤ) → Has v xs → (low ≤ℤ v) × (v ≤ℤ high) × (Contains taken v → ⊥)) → free_count taken low high ≤ length xs
     → low ≤ℤ z → z ≤ℤ high → (Contains taken z → ⊥) → (Has z xs → ⊥) → ⊥
 free_filled taken low high xs z apart inside many from to free new =
     pigeons_fill xs (free_list taken low high) z apart (λ v h. let i = inside v h in free_has taken low high v i.0 i.1 i.2) many (free_has taken low high z from to free) new
@@ -80,7 +81,7 @@ free_beyond taken low high far z h same from beyond to free =
 -- an interval from a free number on has one
 pub free_first : (taken : List ℤ) (low high : ℤ) → (Contains taken low → ⊥) → low ≤ℤ high → 1 ≤ free_count taken low high
 free_first taken low high free h =
-    free_fits taken low high (low ∷ []) ((λ k. k), tt)
+    free_fits taken low high (low ∷ []) (has_more low [] (λ h. h) distinct_none)
     (λ v k. elim k [ inl e ↦ (omega (arith, ints, e), omega (arith, ints, e), subst (λ w. Contains taken w → ⊥) (sym e) free) | inr none ↦ absurd none ])
 
 -- a single number has at most one
@@ -129,11 +130,11 @@ taken_within given rising low high r =
     (λ v h.
     let found = has_filter (is_taken given) (range low high) v h in
     let inside = has_range low high v found.0 in
-    filter_has (λ z. int_le low z && int_le z high) rising v (has_at rising v (r.has v (at_taken given v found.1))) (and_from (int_le low v) (int_le v high) (test_from_le low v inside.0) (test_from_le v high inside.1)))
+    filter_has (λ z. int_le low z && int_le z high) rising v (has_from_contains rising v (r.has v (at_taken given v found.1))) (and_from (int_le low v) (int_le v high) (test_from_le low v inside.0) (test_from_le v high inside.1)))
     (λ v h.
     let found = has_filter (λ z. int_le low z && int_le z high) rising v h in
     let both = and_parts (int_le low v) (int_le v high) found.1 in
-    filter_has (is_taken given) (range low high) v (range_has low high v (le_from_test low v both.0) (le_from_test v high both.1)) (taken_at given v (r.from v (at_has rising v found.0))))
+    filter_has (is_taken given) (range low high) v (range_has low high v (le_from_test low v both.0) (le_from_test v high both.1)) (taken_at given v (r.from v (contains_from_has rising v found.0))))
 
 -- the free numbers and the taken ones make up low..high
 pub free_is : (given rising : List ℤ) (low high : ℤ) (n : ℕ) → IsRising given rising → low ≤ℤ high → low +ℤ pos n ≡ high +ℤ pos 1 → how_many_within rising low high + free_count given low high ≡ n

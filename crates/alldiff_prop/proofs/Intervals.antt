@@ -15,9 +15,9 @@ use Rattle.dom_store.specs.Strength.{free_count, IsOutside, IsHallInterval}
 use Rattle.alldiff_prop.specs.Rising.{Climbs, how_many_to}
 use Rattle.dom_store.specs.Steps.{Step, EachTo}
 use Rattle.alldiff_prop.specs.Untaken.{BoundsAreFree}
-use Rattle.alldiff_prop.specs.Highs.{IsHighs, AreLows}
+use Rattle.alldiff_prop.specs.Highs.{IsHighs}
 use Rattle.alldiff_prop.specs.Fulls.{AreFullsTo}
-use Rattle.alldiff_prop.specs.Halls.{IsClear, IsApart, IsNarrowedFrom, AreNarrowed}
+use Rattle.alldiff_prop.specs.Halls.{IsClear, IsApart, IsNarrowedFrom}
 use Rattle.alldiff_prop.proofs.Counting.{back_fails}
 use Rattle.alldiff_prop.proofs.Free.{free_first, free_more, free_beyond}
 use Rattle.alldiff_prop.proofs.Crowding.{inside_is, is_inside_from}
@@ -96,13 +96,3 @@ pub narrowed_step : (xs : List Term) (taken : List ℤ) (low : ℤ) (highs fulls
 narrowed_step xs taken low highs fulls old new result are to step =
     step_as (EachTo (IsApart low fulls) xs (length xs)) (IsNarrowedFrom xs taken low) (Holds (con.AllDiffExcept xs taken)) old new result
     (λ same apart. intervals_hold new.box xs taken low highs fulls (subst (λ box. IsHighs box xs low highs) (sym same) are) to apart) step
-
--- and from the least value of each member on
-pub narrowed_all : (xs : List Term) (taken lows : List ℤ) (old new : Stored) (result : Passed) → AreLows old.box xs lows → Step (EachTo (IsNarrowedFrom xs taken) lows (length lows)) (Holds (con.AllDiffExcept xs taken)) old new result → Step (AreNarrowed xs taken) (Holds (con.AllDiffExcept xs taken)) old new result
-unfolding EachTo AreNarrowed
-narrowed_all xs taken lows old new result are step =
-    step_as (EachTo (IsNarrowedFrom xs taken) lows (length lows)) (AreNarrowed xs taken) (Holds (con.AllDiffExcept xs taken)) old new result
-    (λ same each k d h.
-    let at : Contains lows (term_low new.box (slice_index_or xs k d)) = subst (λ box. Contains lows (term_low box (slice_index_or xs k d))) (sym same) (are.all k d h) in
-    subst (λ low. IsNarrowedFrom xs taken low new.box) at.2 (each at.0 (term_low new.box (slice_index_or xs k d)) at.1))
-    step

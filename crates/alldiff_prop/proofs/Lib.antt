@@ -11,3 +11,6 @@ pub mod Freeing
 pub mod Intervals
 pub mod Owing
 pub mod Beyond
+pub mod Spanning
+pub mod Sweeping
+pub mod Since

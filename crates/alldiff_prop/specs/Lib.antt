@@ -6,3 +6,4 @@ pub mod Untaken
 pub mod Highs
 pub mod Fulls
 pub mod Halls
+pub mod Spans

@@ -2,13 +2,11 @@
 use Rattle.std.specs.Prelude.{List, ℤ, All, Contains}
 use Rattle.fzn_model.specs.declared.term.Term.{Term}
 use Rattle.fzn_model.specs.Bounds.{term_low, term_high}
+use Rattle.dom_store.specs.Steps.{IsGone}
 
--- the least value of a term isn't taken, or its greatest isn't
-unfoldable pub LowIsFree : List ℤ → Term → List (List ℤ) → Type 0
-LowIsFree taken t box = Contains taken (term_low box t) → ⊥
-
-unfoldable pub HighIsFree : List ℤ → Term → List (List ℤ) → Type 0
-HighIsFree taken t box = Contains taken (term_high box t) → ⊥
+-- a value of a term isn't taken, or is dropped
+unfoldable pub IsDropped : List ℤ → Term → ℤ → List (List ℤ) → Type 0
+IsDropped taken t value box = Contains taken value → IsGone t value box
 
 -- no bound of a term is taken
 unfoldable pub BoundsAreFree : List ℤ → Term → List (List ℤ) → Type 0

@@ -1,6 +1,7 @@
 ghost use Rattle.std.specs.Prelude.{◌≡◌, IfOk};
 ghost use Rattle.alldiff_prop.specs.Kinds.{IsAllDifferent};
 
+use crate::narrow::Lists;
 use crate::pass_all_different::pass_all_different;
 use crate::taken::Taken;
 use dom_store::{Pass, Passed, Propagator, Ran, Store, pass_on};
@@ -11,10 +12,10 @@ use std::marker::Model;
 /// A propagator for values that differ in pairs and from taken numbers, which contracts see as its constraint.
 #[derive(Drop)]
 pub struct AllDiffProp {
-    /// What passes take their memory from.
-    alloc: Global,
     members: List<Term>,
     taken: Taken,
+    /// Where a pass puts what it looks at.
+    lists: Lists,
 }
 
 impl Model for AllDiffProp {
@@ -36,9 +37,9 @@ impl AllDiffProp {
             unreachable!()
         };
         Ok(AllDiffProp {
-            alloc,
             members: members.copy(alloc)?,
             taken: Taken::new(alloc, taken)?,
+            lists: Lists::new(alloc),
         })
     }
 }
@@ -47,7 +48,7 @@ impl Pass for AllDiffProp {
     ghost subject = { λ c. c };
 
     fn pass(&mut self, store: &mut Store) -> Result<Passed, AllocError> {
-        pass_all_different(self.alloc, store, self.members.as_slice(), &self.taken)
+        pass_all_different(store, self.members.as_slice(), &self.taken, &mut self.lists)
     }
 }
 

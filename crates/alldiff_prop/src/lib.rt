@@ -12,9 +12,11 @@
 //! intervals). Where all members are fixed, the constraint holds.
 //!
 //! What it costs: the taken numbers twice, once as given and once in order. A pass over `n` members with `t` taken numbers
-//! takes a number of steps that grows at most with `n * n * log(n + t)`, and memory that grows with `n`; where memory runs
-//! out, it answers so, and what it removed until then no assignment with the constraint has. A pass that drops a taken
-//! bound looks for no intervals. A run makes passes until one removes nothing.
+//! sorts the members' bounds once by where they end, and looks along them once for each least value: `n * n * log(t + 1)`
+//! steps, few each. Only from a least value from which something has to go it sorts again, and searches: `n * log(n)` steps
+//! for each of these. The memory for the bounds grows with `n` and stays for later passes; where memory runs out, it answers
+//! so, and what it removed until then no assignment with the constraint has. A pass that drops a taken bound looks for no
+//! intervals. A run makes passes until one removes nothing.
 //!
 //! What it stands on: dom_store for stores and terms, fzn_model for constraints; its proofs, int_domain for ranges of numbers.
 #![tactic(auto)]
@@ -25,6 +27,10 @@ mod taken;
 
 // One term is narrowed.
 mod strict;
+
+// The bounds of all members, and whether they leave full intervals alone.
+mod spans;
+mod sweep;
 
 // The parts of a pass, and a whole pass.
 mod fulls;

@@ -9,11 +9,18 @@ pub fn count_below(numbers: &[i64], number: &i64) -> usize
     numbers.partition_point(|x| *x < *number)
 }
 
+/// Puts numbers in order, each of them once.
+pub fn make_rising(numbers: &mut Vec<i64>)
+    ensures { IsRising numbers.old.items numbers.new.items }
+{
+    numbers.sort_unstable();
+    numbers.dedup();
+}
+
 /// The same numbers, rising, each of them once.
 pub fn rising(mut numbers: Vec<i64>) -> Vec<i64>
     ensures { IsRising numbers.items result.items }
 {
-    numbers.sort_unstable();
-    numbers.dedup();
+    make_rising(&mut numbers);
     numbers
 }

@@ -4,7 +4,7 @@ ghost use Rattle.fzn_model.specs.Limits.{TermIn, IsValue};
 ghost use Rattle.dom_store.specs.Steps.{NarrowsTerm};
 ghost use Rattle.alldiff_prop.specs.Strict.{IsAbove, IsBelow, LowIsAbove, HighIsBelow};
 
-use dom_store::{Passed, Store, cut_above, cut_below};
+use dom_store::{Passed, Store, cut_above, cut_below, greatest, least};
 use fzn_model::Term;
 
 /// The number after another.
@@ -29,6 +29,9 @@ pub fn keep_above(store: &mut Store, term: Term, number: &i64) -> Passed
     requires number { IsValue number.now }
     ensures { NarrowsTerm (IsAbove number.now) (LowIsAbove term number.now) term store.old store.new result }
 {
+    if *number < least(store, term) {
+        return Passed::Done;
+    }
     cut_below(store, term, &after(number))
 }
 
@@ -38,5 +41,8 @@ pub fn keep_below(store: &mut Store, term: Term, number: &i64) -> Passed
     requires number { IsValue number.now }
     ensures { NarrowsTerm (IsBelow number.now) (HighIsBelow term number.now) term store.old store.new result }
 {
+    if greatest(store, term) < *number {
+        return Passed::Done;
+    }
     cut_above(store, term, &ahead_of(number))
 }

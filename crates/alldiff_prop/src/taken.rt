@@ -1,5 +1,5 @@
 //! The taken numbers.
-ghost use Rattle.std.specs.Prelude.{◌≡◌, ◌↔◌, ◌≤ℤ◌, ◌+◌, ◌+ℤ◌, pos, IsTrue, IfOk, Contains};
+ghost use Rattle.std.specs.Prelude.{◌≡◌, ◌↔◌, ◌≤ℤ◌, ◌+◌, ◌+ℤ◌, pos, length, IsTrue, IfOk, Contains};
 ghost use Rattle.fzn_model.specs.Limits.{IsValue};
 ghost use Rattle.dom_store.specs.Strength.{free_count};
 ghost use Rattle.alldiff_prop.specs.Rising.{Rises, how_many_within};
@@ -58,6 +58,13 @@ impl Taken {
             given: copy,
             rising: rising(numbers),
         })
+    }
+
+    /// Whether no number is taken.
+    pub fn is_empty(&self) -> bool
+        ensures { IsTrue result → length self.now ≡ 0 }
+    {
+        self.given.as_slice().is_empty()
     }
 
     /// How many numbers from one to another aren't taken.

@@ -1,10 +1,10 @@
 //! The bounds of members that are taken.
 ghost use Rattle.std.specs.Prelude.{◌↔◌, Contains, All, IsTrue, length};
-ghost use Rattle.fzn_model.specs.Limits.{TermIn};
+ghost use Rattle.fzn_model.specs.Limits.{IsValue, TermIn};
 ghost use Rattle.fzn_model.specs.declared.con.Con.TheVariants as con;
 ghost use Rattle.dom_store.specs.Steps.{Step, EachTo};
 ghost use Rattle.alldiff_prop.specs.Members.{IsReady};
-ghost use Rattle.alldiff_prop.specs.Untaken.{LowIsFree, HighIsFree, BoundsAreFree, AreFree};
+ghost use Rattle.alldiff_prop.specs.Untaken.{IsDropped, BoundsAreFree, AreFree};
 ghost use Rattle.fzn_model.specs.Meaning.{Holds};
 
 use crate::taken::Taken;
@@ -26,33 +26,29 @@ pub fn are_free(store: &Store, members: &[Term], taken: &Taken) -> bool
     requires { All (TermIn (length store.now.box)) members.now }
     ensures { IsTrue result ↔ AreFree taken.now members.now store.now.box }
 {
+    if taken.is_empty() {
+        return true;
+    }
     members.iter().all(|term| is_free(store, taken, *term))
 }
 
-/// Drops the least value of a member where it is taken.
-fn drop_low(store: &mut Store, members: &[Term], taken: &Taken, term: Term) -> Passed
+/// Drops a value of a member where it is taken.
+fn drop_where_taken(
+    store: &mut Store,
+    members: &[Term],
+    taken: &Taken,
+    term: Term,
+    value: &i64,
+) -> Passed
     requires ready { IsReady store.old.box members.now }
     requires member { Contains members.now term }
-    ensures { Step (LowIsFree taken.now term) (Holds (con.AllDiffExcept members.now taken.now)) store.old store.new result }
+    requires value { IsValue value.now }
+    ensures { Step (IsDropped taken.now term value.now) (Holds (con.AllDiffExcept members.now taken.now)) store.old store.new result }
 {
-    let low = least(store, term);
-    if !taken.has(&low) {
+    if !taken.has(value) {
         return Passed::Done;
     }
-    drop_value(store, term, &low)
-}
-
-/// Drops the greatest value of a member where it is taken.
-fn drop_high(store: &mut Store, members: &[Term], taken: &Taken, term: Term) -> Passed
-    requires ready { IsReady store.old.box members.now }
-    requires member { Contains members.now term }
-    ensures { Step (HighIsFree taken.now term) (Holds (con.AllDiffExcept members.now taken.now)) store.old store.new result }
-{
-    let high = greatest(store, term);
-    if !taken.has(&high) {
-        return Passed::Done;
-    }
-    drop_value(store, term, &high)
+    drop_value(store, term, value)
 }
 
 /// Drops each bound of a member that is taken.
@@ -61,10 +57,12 @@ fn drop_bounds(store: &mut Store, members: &[Term], taken: &Taken, term: Term) -
     requires member { Contains members.now term }
     ensures { Step (BoundsAreFree taken.now term) (Holds (con.AllDiffExcept members.now taken.now)) store.old store.new result }
 {
-    if let Passed::Empty = drop_low(store, members, taken, term) {
+    let low = least(store, term);
+    if let Passed::Empty = drop_where_taken(store, members, taken, term, &low) {
         return Passed::Empty;
     }
-    drop_high(store, members, taken, term)
+    let high = greatest(store, term);
+    drop_where_taken(store, members, taken, term, &high)
 }
 
 /// Drops each bound of the members that is taken.

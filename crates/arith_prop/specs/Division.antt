@@ -1,8 +1,15 @@
--- Two terms that have one value each: the arguments of a division.
-use Rattle.std.specs.Prelude.{List, ℤ}
+-- What a division gives, and its arguments, two terms that have one value each.
+use Rattle.std.specs.Prelude.{List, ℤ, int_div, int_rem}
 use Rattle.fzn_model.specs.declared.term.Term.{Term}
 use Rattle.fzn_model.specs.Limits.{IsValue}
 use Rattle.fzn_model.specs.Bounds.{IsFixed, IsAt}
+use Rattle.arith_prop.specs.declared.division.Part.{Part}
+use Rattle.arith_prop.specs.declared.division.Part.TheVariants as part
+
+-- the quotient, rounded towards zero, or what is left
+abbrev pub divided : Part → ℤ → ℤ → ℤ
+divided part.Quotient = int_div
+divided part.Remainder = int_rem
 
 -- the term has this one value
 pub record IsOnly (box : List (List ℤ)) (t : Term) (v : ℤ) : Type 0 where

@@ -2,7 +2,6 @@ pub mod Kinds
 pub mod Parts
 pub mod Passes
 pub mod Corners
-pub mod Times
 pub mod Extremes
 pub mod Sizes
 pub mod Division

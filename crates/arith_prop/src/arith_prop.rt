@@ -5,10 +5,10 @@ ghost use Rattle.arith_prop.specs.Parts.{con_of};
 ghost use Rattle.arith_prop.specs.Passes.{IsPass};
 
 use crate::abs::pass_abs;
-use crate::division::{pass_div, pass_mod};
-use crate::extremes::{pass_greatest, pass_least};
+use crate::division::{Part, pass_division};
+use crate::extremes::pass_extreme;
 use crate::times::pass_times;
-use dom_store::{Pass, Passed, Propagator, Ran, Store, pass_on};
+use dom_store::{Extreme, Pass, Passed, Propagator, Ran, Store, pass_on};
 use fzn_model::{Con, List, Term};
 use std::alloc::{AllocError, Global};
 use std::marker::Model;
@@ -18,10 +18,8 @@ use std::marker::Model;
 pub(crate) enum Kind {
     Times(Term, Term, Term),
     Abs(Term, Term),
-    Div(Term, Term, Term),
-    Mod(Term, Term, Term),
-    Greatest(Term, List<Term>),
-    Least(Term, List<Term>),
+    Division(Part, Term, Term, Term),
+    Extreme(Extreme, Term, List<Term>),
 }
 
 /// The propagator of an arithmetic constraint.
@@ -48,10 +46,10 @@ impl ArithProp {
         let kind = match con {
             Con::Times(a, b, c) => Kind::Times(*a, *b, *c),
             Con::Abs(a, b) => Kind::Abs(*a, *b),
-            Con::Div(a, b, c) => Kind::Div(*a, *b, *c),
-            Con::Mod(a, b, c) => Kind::Mod(*a, *b, *c),
-            Con::Greatest(m, terms) => Kind::Greatest(*m, terms.copy(alloc)?),
-            Con::Least(m, terms) => Kind::Least(*m, terms.copy(alloc)?),
+            Con::Div(a, b, c) => Kind::Division(Part::Quotient, *a, *b, *c),
+            Con::Mod(a, b, c) => Kind::Division(Part::Remainder, *a, *b, *c),
+            Con::Greatest(m, terms) => Kind::Extreme(Extreme::Greatest, *m, terms.copy(alloc)?),
+            Con::Least(m, terms) => Kind::Extreme(Extreme::Least, *m, terms.copy(alloc)?),
             _ => unreachable!(),
         };
         Ok(ArithProp { kind })
@@ -59,6 +57,7 @@ impl ArithProp {
 }
 
 /// One pass over a constraint of each kind.
+#[tactic(auto, using(crate::proofs::Choosing::result_in, crate::proofs::Choosing::members_in, crate::proofs::Dividing::terms_in))]
 fn pass_kind(store: &mut Store, kind: &Kind) -> Passed
     requires { ConInLimits of_call (length store.old.box) (con_of kind.now) }
     ensures { IsPass (con_of kind.now) store.old store.new result }
@@ -66,10 +65,8 @@ fn pass_kind(store: &mut Store, kind: &Kind) -> Passed
     match kind {
         Kind::Times(a, b, c) => pass_times(store, *a, *b, *c),
         Kind::Abs(a, b) => pass_abs(store, *a, *b),
-        Kind::Div(a, b, c) => pass_div(store, *a, *b, *c),
-        Kind::Mod(a, b, c) => pass_mod(store, *a, *b, *c),
-        Kind::Greatest(m, terms) => pass_greatest(store, *m, terms.as_slice()),
-        Kind::Least(m, terms) => pass_least(store, *m, terms.as_slice()),
+        Kind::Division(part, a, b, c) => pass_division(store, *part, *a, *b, *c),
+        Kind::Extreme(extreme, m, terms) => pass_extreme(store, *extreme, *m, terms.as_slice()),
     }
 }
 

@@ -1,79 +1,61 @@
-//! The terms of a list with the greatest or the least bound.
-ghost use Rattle.std.specs.Prelude.{◌≡◌, length};
-ghost use Rattle.fzn_model.specs.Limits.{TermIn, ListInLimits};
-ghost use Rattle.arith_prop.specs.Extremes.{bound_of, IsHigher, IsLower, IsHighest, IsLowest};
+//! The bounds of a term, and the term of a list whose bound is the least or the greatest.
+ghost use Rattle.std.specs.Prelude.{◌≡◌, length, IsTrue, IsFalse};
+ghost use Rattle.fzn_model.specs.Limits.{TermIn, IsValue, ListInLimits};
+ghost use Rattle.fzn_model.specs.Boxes.{IsBox};
+ghost use Rattle.dom_store.specs.Extremes.{bound_of, Bounds};
+ghost use Rattle.arith_prop.specs.Corners.{hull_of};
+ghost use Rattle.arith_prop.specs.Extremes.{IsFurther, IsFurthest};
 
-use dom_store::{Store, greatest, least};
+use dom_store::{Extreme, Store, bound, greatest, least};
 use fzn_model::Term;
 
-/// One of the two bounds of a term.
-#[derive(Clone, Copy)]
-pub(crate) enum End {
-    Low,
-    High,
-}
-
-#[tactic(auto, unfolding(crate::specs::Extremes::bound_of))]
-fn bound(store: &Store, term: Term, end: End) -> i64
+/// The least value of a term, and its greatest.
+pub(crate) fn hull(store: &Store, term: Term) -> (i64, i64)
     requires { TermIn (length store.now.box) term }
-    ensures { result ≡ bound_of store.now.box end term }
+    ensures value { result ≡ hull_of store.now.box term }
+    ensures range { IsValue result.0 × IsValue result.1 }
+    ensures well_formed { IsBox store.now.box }
 {
-    match end {
-        End::Low => least(store, term),
-        End::High => greatest(store, term),
-    }
+    (least(store, term), greatest(store, term))
 }
 
-/// That of two terms with the greater bound.
-fn higher(store: &Store, first: Term, second: Term, end: End) -> Term
+/// Whether the bound of the second term is within that of the first: at least it, or at most.
+fn is_further(store: &Store, first: Term, second: Term, extreme: Extreme, bounds: Extreme) -> bool
     requires first { TermIn (length store.now.box) first }
     requires second { TermIn (length store.now.box) second }
-    ensures { IsHigher store.now.box end first second result }
+    ensures yes { IsTrue result → Bounds extreme (bound_of bounds first store.now.box) (bound_of bounds second store.now.box) }
+    ensures no { IsFalse result → Bounds extreme (bound_of bounds second store.now.box) (bound_of bounds first store.now.box) }
 {
-    if bound(store, first, end) < bound(store, second, end) {
-        second
-    } else {
-        first
+    match extreme {
+        Extreme::Least => bound(store, first, bounds) <= bound(store, second, bounds),
+        Extreme::Greatest => bound(store, second, bounds) <= bound(store, first, bounds),
     }
 }
 
-/// That of two terms with the lesser bound.
-fn lower(store: &Store, first: Term, second: Term, end: End) -> Term
+/// That of two terms with the lesser or the greater bound.
+#[tactic(auto, using(crate::proofs::Bounding::first_further, crate::proofs::Bounding::second_further))]
+fn further(store: &Store, first: Term, second: Term, extreme: Extreme, bounds: Extreme) -> Term
     requires first { TermIn (length store.now.box) first }
     requires second { TermIn (length store.now.box) second }
-    ensures { IsLower store.now.box end first second result }
+    ensures { IsFurther store.now.box extreme bounds first second result }
 {
-    if bound(store, second, end) < bound(store, first, end) {
-        second
-    } else {
+    if is_further(store, first, second, extreme, bounds) {
         first
+    } else {
+        second
     }
 }
 
-/// A term of the list with the greatest bound.
-#[tactic(auto, using(crate::proofs::Bounding::highest_start, crate::proofs::Bounding::highest_more, crate::proofs::Bounding::higher_in))]
-pub(crate) fn highest(store: &Store, terms: &[Term], end: End) -> Term
+/// A term of the list with the least or the greatest bound.
+#[tactic(auto, using(crate::proofs::Bounding::furthest_start))]
+pub(crate) fn furthest(store: &Store, terms: &[Term], extreme: Extreme, bounds: Extreme) -> Term
     requires { ListInLimits (length store.now.box) terms.now }
-    ensures bound { IsHighest store.now.box end (length terms.now) terms.now result }
+    ensures bound { IsFurthest store.now.box extreme bounds (length terms.now) terms.now result }
     ensures inside { TermIn (length store.now.box) result }
 {
-    let mut top = terms[0];
+    let mut best = terms[0];
     for term in terms {
-        top = higher(store, top, *term, end);
+        best = further(store, best, *term, extreme, bounds);
     }
-    top
-}
-
-/// A term of the list with the least bound.
-#[tactic(auto, using(crate::proofs::Bounding::lowest_start, crate::proofs::Bounding::lowest_more, crate::proofs::Bounding::lower_in))]
-pub(crate) fn lowest(store: &Store, terms: &[Term], end: End) -> Term
-    requires { ListInLimits (length store.now.box) terms.now }
-    ensures bound { IsLowest store.now.box end (length terms.now) terms.now result }
-    ensures inside { TermIn (length store.now.box) result }
-{
-    let mut bottom = terms[0];
-    for term in terms {
-        bottom = lower(store, bottom, *term, end);
-    }
-    bottom
+    best
 }

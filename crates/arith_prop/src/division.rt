@@ -1,12 +1,19 @@
-ghost use Rattle.std.specs.Prelude.{◌≡◌, length, pos, int_div, int_rem, IfSome, IfNone};
-ghost use Rattle.fzn_model.specs.declared.con.Con.TheVariants as con;
+ghost use Rattle.std.specs.Prelude.{◌≡◌, length, pos, IfSome, IfNone};
 ghost use Rattle.fzn_model.specs.Boxes.{IsBox};
-ghost use Rattle.fzn_model.specs.Limits.{TermIn, IsValue, ConInLimits, of_call};
-ghost use Rattle.arith_prop.specs.Division.{IsOnly, AreOnly, IsLoose, AreLoose};
+ghost use Rattle.fzn_model.specs.Limits.{TermIn, IsValue};
+ghost use Rattle.arith_prop.specs.Division.{divided, IsOnly, AreOnly, IsLoose, AreLoose};
+ghost use Rattle.arith_prop.specs.Parts.{division_con};
 ghost use Rattle.arith_prop.specs.Passes.{IsPass};
 
 use dom_store::{Passed, Store, fix, greatest, least, recall_domains};
 use fzn_model::Term;
+
+/// What of a division the result is.
+#[derive(Clone, Copy)]
+pub(crate) enum Part {
+    Quotient,
+    Remainder,
+}
 
 /// The only value of a term, where it has but one.
 #[tactic(auto, unfolding(crate::specs::Division::IsLoose))]
@@ -39,68 +46,38 @@ fn arguments(store: &Store, a: Term, b: Term) -> Option<(i64, i64)>
     }
 }
 
-/// The quotient of two values, rounded towards zero.
-fn quotient(args: &(i64, i64)) -> i64
+/// The quotient of two values, rounded towards zero, or what that division leaves.
+fn divided(part: Part, args: &(i64, i64)) -> i64
     requires range { IsValue args.now.0 × IsValue args.now.1 }
     requires some { args.now.1 ≡ pos 0 → ⊥ }
-    ensures { result ≡ int_div args.now.0 args.now.1 }
+    ensures { result ≡ divided part args.now.0 args.now.1 }
 {
-    args.0 / args.1
+    match part {
+        Part::Quotient => args.0 / args.1,
+        Part::Remainder => args.0 % args.1,
+    }
 }
 
-/// What that division leaves.
-fn remainder(args: &(i64, i64)) -> i64
-    requires range { IsValue args.now.0 × IsValue args.now.1 }
-    requires some { args.now.1 ≡ pos 0 → ⊥ }
-    ensures { result ≡ int_rem args.now.0 args.now.1 }
-{
-    args.0 % args.1
-}
-
-/// WholeMeans the result at the quotient of two values.
-fn fix_quotient(store: &mut Store, a: Term, b: Term, c: Term, args: &(i64, i64)) -> Passed
-    requires kept { ConInLimits of_call (length store.old.box) (con.Div a b c) }
+/// Fixes the result at what the division of two values gives.
+fn fix_result(store: &mut Store, part: Part, a: Term, b: Term, c: Term, args: &(i64, i64)) -> Passed
+    requires terms { TermIn (length store.old.box) a × TermIn (length store.old.box) b × TermIn (length store.old.box) c }
     requires well_formed { IsBox store.old.box }
     requires only { AreOnly store.old.box a b args.now }
-    ensures { IsPass (con.Div a b c) store.old store.new result }
+    ensures { IsPass (division_con part a b c) store.old store.new result }
 {
     if args.1 == 0 {
         return Passed::Empty;
     }
-    fix(store, c, &quotient(args))
+    fix(store, c, &divided(part, args))
 }
 
-/// WholeMeans the result at what the division of two values leaves.
-fn fix_remainder(store: &mut Store, a: Term, b: Term, c: Term, args: &(i64, i64)) -> Passed
-    requires kept { ConInLimits of_call (length store.old.box) (con.Mod a b c) }
-    requires well_formed { IsBox store.old.box }
-    requires only { AreOnly store.old.box a b args.now }
-    ensures { IsPass (con.Mod a b c) store.old store.new result }
-{
-    if args.1 == 0 {
-        return Passed::Empty;
-    }
-    fix(store, c, &remainder(args))
-}
-
-/// One pass over `a / b = c`: where the arguments are fixed, fixes the result.
-pub(crate) fn pass_div(store: &mut Store, a: Term, b: Term, c: Term) -> Passed
-    requires { ConInLimits of_call (length store.old.box) (con.Div a b c) }
-    ensures { IsPass (con.Div a b c) store.old store.new result }
+/// One pass over a division: where the arguments are fixed, fixes the result.
+pub(crate) fn pass_division(store: &mut Store, part: Part, a: Term, b: Term, c: Term) -> Passed
+    requires { TermIn (length store.old.box) a × TermIn (length store.old.box) b × TermIn (length store.old.box) c }
+    ensures { IsPass (division_con part a b c) store.old store.new result }
 {
     match arguments(store, a, b) {
-        Some(args) => fix_quotient(store, a, b, c, &args),
-        None => Passed::Done,
-    }
-}
-
-/// One pass over what `a / b` leaves: where the arguments are fixed, fixes the result.
-pub(crate) fn pass_mod(store: &mut Store, a: Term, b: Term, c: Term) -> Passed
-    requires { ConInLimits of_call (length store.old.box) (con.Mod a b c) }
-    ensures { IsPass (con.Mod a b c) store.old store.new result }
-{
-    match arguments(store, a, b) {
-        Some(args) => fix_remainder(store, a, b, c, &args),
+        Some(args) => fix_result(store, part, a, b, c, &args),
         None => Passed::Done,
     }
 }

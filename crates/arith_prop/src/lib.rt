@@ -16,10 +16,7 @@
 //! What it stands on: dom_store for domains and runs of passes, fzn_model for constraints.
 #![tactic(auto)]
 
-// The hull of a term.
-mod hull;
-
-// The terms of a list with the greatest or the least bound.
+// The bounds of terms, and the term of a list whose bound is the least or the greatest.
 mod bounds;
 
 // One pass over each kind.

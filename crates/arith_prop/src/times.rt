@@ -1,14 +1,13 @@
 ghost use Rattle.std.specs.Prelude.{◌≡◌, ◌*ℤ◌, length};
 ghost use Rattle.fzn_model.specs.declared.con.Con.TheVariants as con;
 ghost use Rattle.fzn_model.specs.Limits.{IsValue, ConInLimits, of_call};
-ghost use Rattle.arith_prop.specs.Corners.{least_corner, greatest_corner};
-ghost use Rattle.dom_store.specs.Steps.{Step};
-ghost use Rattle.arith_prop.specs.Passes.{IsPass};
-ghost use Rattle.arith_prop.specs.Times.{ProductRaised, ProductCapped};
 ghost use Rattle.fzn_model.specs.Meaning.{Holds};
+ghost use Rattle.dom_store.specs.Steps.{Step};
+ghost use Rattle.arith_prop.specs.Corners.{corner, pick_by, ProductIsBounded};
+ghost use Rattle.arith_prop.specs.Passes.{IsPass};
 
-use crate::hull::hull;
-use dom_store::{Passed, Store, cut_above, cut_below};
+use crate::bounds::hull;
+use dom_store::{Extreme, Passed, Store, cut};
 use fzn_model::Term;
 
 /// The product of two values.
@@ -20,44 +19,34 @@ fn product(a: i64, b: i64) -> i64
     a * b
 }
 
-/// The least of the four products of the bounds of two ranges.
-#[tactic(auto, unfolding(crate::specs::Corners::least_corner))]
-fn least_product(a: &(i64, i64), b: &(i64, i64)) -> i64
+/// The lesser or the greater of two numbers.
+fn pick(extreme: Extreme, a: i64, b: i64) -> i64
+    ensures { result ≡ pick_by extreme a b }
+{
+    match extreme {
+        Extreme::Least => a.min(b),
+        Extreme::Greatest => a.max(b),
+    }
+}
+
+/// The least or the greatest of the four products of the bounds of two ranges.
+fn corner(extreme: Extreme, a: &(i64, i64), b: &(i64, i64)) -> i64
     requires first { IsValue a.now.0 × IsValue a.now.1 }
     requires second { IsValue b.now.0 × IsValue b.now.1 }
-    ensures { result ≡ least_corner a.now b.now }
+    ensures { result ≡ corner extreme a.now b.now }
 {
-    let low = product(a.0, b.0).min(product(a.0, b.1));
-    low.min(product(a.1, b.0).min(product(a.1, b.1)))
+    let first = pick(extreme, product(a.0, b.0), product(a.0, b.1));
+    let second = pick(extreme, product(a.1, b.0), product(a.1, b.1));
+    pick(extreme, first, second)
 }
 
-/// The greatest of the four products of the bounds of two ranges.
-#[tactic(auto, unfolding(crate::specs::Corners::greatest_corner))]
-fn greatest_product(a: &(i64, i64), b: &(i64, i64)) -> i64
-    requires first { IsValue a.now.0 × IsValue a.now.1 }
-    requires second { IsValue b.now.0 × IsValue b.now.1 }
-    ensures { result ≡ greatest_corner a.now b.now }
-{
-    let high = product(a.0, b.0).max(product(a.0, b.1));
-    high.max(product(a.1, b.0).max(product(a.1, b.1)))
-}
-
-/// Raises the result to the least product of the bounds of the factors.
-fn raise_product(store: &mut Store, a: Term, b: Term, c: Term) -> Passed
+/// Raises the result to the least product of the bounds of the factors, or caps it at the greatest.
+fn limit_product(store: &mut Store, extreme: Extreme, a: Term, b: Term, c: Term) -> Passed
     requires { ConInLimits of_call (length store.old.box) (con.Times a b c) }
-    ensures { Step (ProductRaised a b c) (Holds (con.Times a b c)) store.old store.new result }
+    ensures { Step (ProductIsBounded extreme a b c) (Holds (con.Times a b c)) store.old store.new result }
 {
-    let low = least_product(&hull(store, a), &hull(store, b));
-    cut_below(store, c, &low)
-}
-
-/// Caps the result at the greatest product of the bounds of the factors.
-fn cap_product(store: &mut Store, a: Term, b: Term, c: Term) -> Passed
-    requires { ConInLimits of_call (length store.old.box) (con.Times a b c) }
-    ensures { Step (ProductCapped a b c) (Holds (con.Times a b c)) store.old store.new result }
-{
-    let high = greatest_product(&hull(store, a), &hull(store, b));
-    cut_above(store, c, &high)
+    let number = corner(extreme, &hull(store, a), &hull(store, b));
+    cut(store, c, extreme, &number)
 }
 
 /// One pass over `a * b = c`: narrows the result to the products of the bounds of the factors.
@@ -65,9 +54,9 @@ pub(crate) fn pass_times(store: &mut Store, a: Term, b: Term, c: Term) -> Passed
     requires { ConInLimits of_call (length store.old.box) (con.Times a b c) }
     ensures { IsPass (con.Times a b c) store.old store.new result }
 {
-    match raise_product(store, a, b, c) {
+    match limit_product(store, Extreme::Least, a, b, c) {
         Passed::Empty => return Passed::Empty,
         Passed::Done => {}
     }
-    cap_product(store, a, b, c)
+    limit_product(store, Extreme::Greatest, a, b, c)
 }

@@ -17,15 +17,14 @@ use Rattle.dom_store.specs.Narrowing.{HasNone}
 use Rattle.dom_store.specs.Steps.{Step, NarrowsTerm, Is, ValueIs}
 use Rattle.dom_store.proofs.Stepping.{narrowed, step_idle, step_none, step_as}
 use Rattle.fzn_model.specs.Bounds.{term_low, term_high, IsFixed, IsAt, is_open}
-use Rattle.dom_store.specs.Strength.{HasTrue, ClauseIsStrong, IsChecked, IsOwed}
+use Rattle.dom_store.specs.Strength.{HasTrue, ClauseIsStrong, IsChecked, IsOwed, ConIsOwed}
 use Rattle.fzn_model.proofs.Terms.{has_low, has_between, fixed_val, at_val}
 use Rattle.bool_prop.specs.Parts.{clause_con}
-use Rattle.bool_prop.specs.Owing.{ConIsOwed}
 use Rattle.bool_prop.specs.Opens.{joined, opens, IsLast, Finds}
 use Rattle.bool_prop.specs.declared.clause.Open.{Open}
 use Rattle.bool_prop.specs.declared.clause.Open.TheVariants as opened
 use Rattle.bool_prop.specs.declared.clause.Literals.TheVariants as literals
-use Rattle.bool_prop.proofs.Comparing.{lt_test, lt_fails}
+use Rattle.dom_store.proofs.Comparing.{lt_test, lt_fails}
 use Rattle.bool_prop.proofs.Filters.{filter_each, filter_from, filter_pass, filter_fail}
 
 -- ---- the open terms of a list, one after the other

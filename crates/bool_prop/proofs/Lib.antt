@@ -1,4 +1,3 @@
-pub mod Comparing
 pub mod Filters
 pub mod Clauses
 pub mod Runs

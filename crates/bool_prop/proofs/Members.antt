@@ -1,9 +1,7 @@
 -- A term that lies in a set: its steps, and what they reach.
-use Rattle.std.proofs.Common.{◌≡◌, ◌⊎◌, List, length, sym, subst, ap, arith, inl, inr}
-use Rattle.std.specs.Prelude.{ℤ, pos, ◌+ℤ◌, ◌-ℤ◌, ◌≤ℤ◌, ◌<ℤ◌}
+use Rattle.std.proofs.Common.{◌≡◌, ◌⊎◌, List, length, sym, subst, ap, ◌∙◌, arith, inl, inr}
+use Rattle.std.specs.Prelude.{ℤ, pos, ◌+ℤ◌, ◌≤ℤ◌, ◌<ℤ◌}
 use Rattle.std.proofs.lemmas.Int.{ints}
-use Rattle.fzn_model.specs.declared.term.Term.{Term}
-use Rattle.fzn_model.specs.declared.term.Term.TheVariants as term
 use Rattle.fzn_model.specs.declared.member.Member.{Member}
 use Rattle.fzn_model.specs.Sets.{IsIn}
 use Rattle.fzn_model.specs.Meaning.{val, Holds}
@@ -13,58 +11,40 @@ use Rattle.dom_store.specs.declared.pass.Passed.{Passed}
 use Rattle.dom_store.specs.declared.pass.Passed.TheVariants as passed
 use Rattle.dom_store.specs.Stores.{Stored}
 use Rattle.fzn_model.specs.Bounds.{term_low, term_high, TermHas, IsLookedAt, IsWide}
-use Rattle.dom_store.specs.Strength.{MemberIsStrong, IsChecked, IsOwed}
-use Rattle.fzn_model.proofs.Terms.{val_low, val_high, has_between, fixed_val}
-use Rattle.dom_store.specs.Steps.{Step, NarrowsTerm, Spares, IsAtLeast, IsAtMost, IsNot, LowIs, HighIs, IsGone}
+use Rattle.dom_store.specs.Strength.{MemberIsStrong, IsChecked, IsOwed, ConIsOwed}
+use Rattle.fzn_model.proofs.Terms.{has_between, fixed_val}
+use Rattle.dom_store.specs.Steps.{Step, NarrowsTerm, Spares, IsNot, IsGone}
+use Rattle.dom_store.specs.declared.extreme.Extreme.{Extreme}
+use Rattle.dom_store.specs.declared.extreme.Extreme.TheVariants as extreme
+use Rattle.dom_store.specs.Extremes.{bound_of, Bounds, BoundsTerm}
+use Rattle.dom_store.proofs.Limiting.{bounds_both, bound_value, values_bound}
 use Rattle.dom_store.proofs.Stepping.{narrowed, still_in, step_idle, step_none, step_then, step_both, step_as, step_end_after}
 use Rattle.bool_prop.specs.Parts.{member_con}
-use Rattle.bool_prop.specs.Owing.{ConIsOwed}
-use Rattle.bool_prop.specs.Neighbours.{IsNext, IsPrevious, NoneFrom, NoneTo}
-use Rattle.bool_prop.specs.Inside.{LowIsIn, HighIsIn, ValueIsIn, ValuesAreIn, EachIsIn}
-use Rattle.bool_prop.proofs.Comparing.{below_or_from}
+use Rattle.bool_prop.specs.Neighbours.{IsNear, NoneNear}
+use Rattle.bool_prop.specs.Inside.{BoundIsIn, ValueIsIn, ValuesAreIn, EachIsIn}
+use Rattle.dom_store.proofs.Comparing.{below_or_from}
 
 abbrev Box : Type 0
 Box = List (List ℤ)
 
--- ---- the least value
-low_spared : (m : Member) (box : Box) (low number : ℤ) → IsBox box → TermIn (length box) m.x → low ≡ term_low box m.x → IsNext m.set low number → Spares (IsAtLeast number) (Holds (member_con m)) m.x box
-low_spared m box low number well_formed inside is next θ lies holds =
-    next.least (val m.x θ) holds (subst (λ z. z ≤ℤ val m.x θ) (sym is) (val_low box m.x θ well_formed inside lies))
+-- ---- a bound
+near_spared : (e : Extreme) (m : Member) (box : Box) (number near : ℤ) → IsBox box → TermIn (length box) m.x → number ≡ bound_of e m.x box → IsNear e m.set number near → Spares (Bounds e near) (Holds (member_con m)) m.x box
+near_spared e m box number near well_formed inside is next θ lies holds =
+    next.nearest (val m.x θ) holds (subst (λ z. Bounds e z (val m.x θ)) (sym is) (bound_value e box m.x θ well_formed inside lies))
 
-pub low_cut : (m : Member) (old new : Stored) (low number : ℤ) (result : Passed) → IsBox old.box → TermIn (length old.box) m.x → low ≡ term_low old.box m.x → IsNext m.set low number
-    → NarrowsTerm (IsAtLeast number) (LowIs m.x number) m.x old new result → Step (LowIsIn m) (Holds (member_con m)) old new result
-unfolding LowIsIn LowIs
-low_cut m old new low number result well_formed inside is next narrows =
-    step_as (LowIs m.x number) (LowIsIn m) (Holds (member_con m)) old new result (λ same there.
-    let was : term_low new.box m.x ≡ term_low old.box m.x = ap (λ b. term_low b m.x) same in
-    let from : low ≤ℤ number = next.from in
-    let one : number ≡ term_low new.box m.x = omega (arith, ints, there, was, is, from) in
-    subst (IsIn m.set) one next.has) (narrowed (Holds (member_con m)) narrows (low_spared m old.box low number well_formed inside is next))
+pub bound_cut : (e : Extreme) (m : Member) (old new : Stored) (number near : ℤ) (result : Passed) → IsBox old.box → TermIn (length old.box) m.x → number ≡ bound_of e m.x old.box → IsNear e m.set number near
+    → NarrowsTerm (Bounds e near) (BoundsTerm e near m.x) m.x old new result → Step (BoundIsIn e m) (Holds (member_con m)) old new result
+unfolding BoundIsIn
+bound_cut e m old new number near result well_formed inside is next narrows =
+    step_as (BoundsTerm e near m.x) (BoundIsIn e m) (Holds (member_con m)) old new result (λ same there.
+    let was : number ≡ bound_of e m.x new.box = is ∙ sym (ap (bound_of e m.x) same) in
+    let one : near ≡ bound_of e m.x new.box = bounds_both e near (bound_of e m.x new.box) (values_bound e m.x near new.box there) (subst (λ z. Bounds e z near) was next.bounded) in
+    subst (IsIn m.set) one next.has) (narrowed (Holds (member_con m)) narrows (near_spared e m old.box number near well_formed inside is next))
 
-pub none_from_low : (m : Member) (s : Stored) (low : ℤ) → IsBox s.box → TermIn (length s.box) m.x → low ≡ term_low s.box m.x → NoneFrom m.set low → Step (LowIsIn m) (Holds (member_con m)) s s passed.Empty
-unfolding NoneFrom
-none_from_low m s low well_formed inside is none =
-    step_none (LowIsIn m) (Holds (member_con m)) s well_formed (λ θ lies holds. none (val m.x θ) holds (subst (λ z. z ≤ℤ val m.x θ) (sym is) (val_low s.box m.x θ well_formed inside lies)))
-
--- ---- the greatest value
-high_spared : (m : Member) (box : Box) (high number : ℤ) → IsBox box → TermIn (length box) m.x → high ≡ term_high box m.x → IsPrevious m.set high number → Spares (IsAtMost number) (Holds (member_con m)) m.x box
-high_spared m box high number well_formed inside is previous θ lies holds =
-    previous.greatest (val m.x θ) holds (subst (λ z. val m.x θ ≤ℤ z) (sym is) (val_high box m.x θ well_formed inside lies))
-
-pub high_cut : (m : Member) (old new : Stored) (high number : ℤ) (result : Passed) → IsBox old.box → TermIn (length old.box) m.x → high ≡ term_high old.box m.x → IsPrevious m.set high number
-    → NarrowsTerm (IsAtMost number) (HighIs m.x number) m.x old new result → Step (HighIsIn m) (Holds (member_con m)) old new result
-unfolding HighIsIn HighIs
-high_cut m old new high number result well_formed inside is previous narrows =
-    step_as (HighIs m.x number) (HighIsIn m) (Holds (member_con m)) old new result (λ same there.
-    let was : term_high new.box m.x ≡ term_high old.box m.x = ap (λ b. term_high b m.x) same in
-    let to : number ≤ℤ high = previous.to in
-    let one : number ≡ term_high new.box m.x = omega (arith, ints, there, was, is, to) in
-    subst (IsIn m.set) one previous.has) (narrowed (Holds (member_con m)) narrows (high_spared m old.box high number well_formed inside is previous))
-
-pub none_to_high : (m : Member) (s : Stored) (high : ℤ) → IsBox s.box → TermIn (length s.box) m.x → high ≡ term_high s.box m.x → NoneTo m.set high → Step (HighIsIn m) (Holds (member_con m)) s s passed.Empty
-unfolding NoneTo
-none_to_high m s high well_formed inside is none =
-    step_none (HighIsIn m) (Holds (member_con m)) s well_formed (λ θ lies holds. none (val m.x θ) holds (subst (λ z. val m.x θ ≤ℤ z) (sym is) (val_high s.box m.x θ well_formed inside lies)))
+pub none_near : (e : Extreme) (m : Member) (s : Stored) (number : ℤ) → IsBox s.box → TermIn (length s.box) m.x → number ≡ bound_of e m.x s.box → NoneNear e m.set number → Step (BoundIsIn e m) (Holds (member_con m)) s s passed.Empty
+unfolding NoneNear
+none_near e m s number well_formed inside is none =
+    step_none (BoundIsIn e m) (Holds (member_con m)) s well_formed (λ θ lies holds. none (val m.x θ) holds (subst (λ z. Bounds e z (val m.x θ)) (sym is) (bound_value e s.box m.x θ well_formed inside lies)))
 
 -- ---- one value
 pub value_dropped : (m : Member) (old new : Stored) (value : ℤ) (result : Passed) → (IsIn m.set value → ⊥) → NarrowsTerm (IsNot value) (IsGone m.x value) m.x old new result → Step (ValueIsIn m value) (Holds (member_con m)) old new result
@@ -107,13 +87,9 @@ pub from_end : (m : Member) (low value end : ℤ) (a b d : Stored) → Step (Val
 from_end m low value end a b d first then = step_end_after (ValuesAreIn m low value) (ValueIsIn m value) (ValuesAreIn m low end) (Holds (member_con m)) a b d first then
 
 -- ---- all values
-wide_term : (box : Box) (t : Term) → pos 1024 ≤ℤ (term_high box t -ℤ term_low box t) → IsWide box t
-wide_term box (term.Const z) wide = omega (arith, ints, wide)
-wide_term box (term.Var k) wide = wide
-
-pub wide_left : (m : Member) (s : Stored) (low high : ℤ) → IsBox s.box → low ≡ term_low s.box m.x → high ≡ term_high s.box m.x → pos 1024 ≤ℤ (high -ℤ low) → Step (EachIsIn m) (Holds (member_con m)) s s passed.Done
+pub wide_left : (m : Member) (s : Stored) → IsBox s.box → IsWide s.box m.x → Step (EachIsIn m) (Holds (member_con m)) s s passed.Done
 unfolding EachIsIn
-wide_left m s low high well_formed low_is high_is wide = step_idle (EachIsIn m) (Holds (member_con m)) s well_formed (inl (wide_term s.box m.x (rw (sym low_is, sym high_is) wide)))
+wide_left m s well_formed wide = step_idle (EachIsIn m) (Holds (member_con m)) s well_formed (inl wide)
 
 pub each_inside : (m : Member) (old new : Stored) (low high : ℤ) (result : Passed) → IsBox old.box → TermIn (length old.box) m.x → low ≡ term_low old.box m.x → high ≡ term_high old.box m.x
     → Step (ValuesAreIn m low (high +ℤ pos 1)) (Holds (member_con m)) old new result → Step (EachIsIn m) (Holds (member_con m)) old new result
@@ -124,25 +100,25 @@ each_inside m old new low high result well_formed inside low_is high_is step = s
     are v (omega (arith, ints, ends.0, low_is)) (omega (arith, ints, ends.1, high_is)) looked)) step
 
 -- ---- the whole pass
-strong_from : (m : Member) (box : Box) → LowIsIn m box → HighIsIn m box → EachIsIn m box → MemberIsStrong box m
-unfolding LowIsIn HighIsIn EachIsIn MemberIsStrong
+strong_from : (m : Member) (box : Box) → BoundIsIn extreme.Least m box → BoundIsIn extreme.Greatest m box → EachIsIn m box → MemberIsStrong box m
+unfolding BoundIsIn bound_of EachIsIn MemberIsStrong
 strong_from m box low high (inl wide) v looked = elim (looked.bound wide) [ inl is ↦ subst (IsIn m.set) (sym is) low | inr is ↦ subst (IsIn m.set) (sym is) high ]
 strong_from m box low high (inr each) v looked = each v looked
 
-checked_from : (m : Member) (box : Box) → IsBox box → TermIn (length box) m.x → LowIsIn m box → IsChecked box (member_con m)
-unfolding LowIsIn IsChecked
+checked_from : (m : Member) (box : Box) → IsBox box → TermIn (length box) m.x → BoundIsIn extreme.Least m box → IsChecked box (member_con m)
+unfolding BoundIsIn bound_of IsChecked
 checked_from m box well_formed inside low fixed θ lies =
     let one : val m.x θ ≡ term_low box m.x = fixed_val box m.x θ well_formed inside (fixed 0 m.x (omega arith)) lies in
     subst (IsIn m.set) (sym one) low
 
 -- the box has what is owed
-member_owed : (m : Member) (box : Box) → IsBox box → TermIn (length box) m.x → (LowIsIn m box × HighIsIn m box) × EachIsIn m box → IsOwed box (member_con m)
+member_owed : (m : Member) (box : Box) → IsBox box → TermIn (length box) m.x → (BoundIsIn extreme.Least m box × BoundIsIn extreme.Greatest m box) × EachIsIn m box → IsOwed box (member_con m)
 member_owed m box well_formed inside all = record { kind = strong_from m box all.0.0 all.0.1 all.1; checked = checked_from m box well_formed inside all.0.0 }
 
-pub member_concludes : (m : Member) (a b d e : Stored) (result : Passed) → TermIn (length a.box) m.x → Step (LowIsIn m) (Holds (member_con m)) a b passed.Done → Step (HighIsIn m) (Holds (member_con m)) b d passed.Done → Step (EachIsIn m) (Holds (member_con m)) d e result
+pub member_concludes : (m : Member) (a b d e : Stored) (result : Passed) → TermIn (length a.box) m.x → Step (BoundIsIn extreme.Least m) (Holds (member_con m)) a b passed.Done → Step (BoundIsIn extreme.Greatest m) (Holds (member_con m)) b d passed.Done → Step (EachIsIn m) (Holds (member_con m)) d e result
     → Step (ConIsOwed (member_con m)) (Holds (member_con m)) a e result
 member_concludes m a b d e result inside low high each =
-    let bounds = step_both (LowIsIn m) (HighIsIn m) (Holds (member_con m)) a b d passed.Done low high in
-    let all = step_both (λ box. LowIsIn m box × HighIsIn m box) (EachIsIn m) (Holds (member_con m)) a d e result bounds each in
-    step_as (λ box. (LowIsIn m box × HighIsIn m box) × EachIsIn m box) (ConIsOwed (member_con m)) (Holds (member_con m)) a e result
+    let bounds = step_both (BoundIsIn extreme.Least m) (BoundIsIn extreme.Greatest m) (Holds (member_con m)) a b d passed.Done low high in
+    let all = step_both (λ box. BoundIsIn extreme.Least m box × BoundIsIn extreme.Greatest m box) (EachIsIn m) (Holds (member_con m)) a d e result bounds each in
+    step_as (λ box. (BoundIsIn extreme.Least m box × BoundIsIn extreme.Greatest m box) × EachIsIn m box) (ConIsOwed (member_con m)) (Holds (member_con m)) a e result
     (λ same are. member_owed m e.box all.well_formed (still_in (Holds (member_con m)) a e m.x all.prunes inside) are) all

@@ -2,15 +2,13 @@
 use Rattle.std.specs.Prelude.{◌⊎◌, List, ℤ, ◌≤ℤ◌, ◌<ℤ◌}
 use Rattle.fzn_model.specs.declared.member.Member.{Member}
 use Rattle.fzn_model.specs.Sets.{IsIn}
-use Rattle.fzn_model.specs.Bounds.{term_low, term_high, IsLookedAt, IsWide}
+use Rattle.fzn_model.specs.Bounds.{IsLookedAt, IsWide}
+use Rattle.dom_store.specs.declared.extreme.Extreme.{Extreme}
+use Rattle.dom_store.specs.Extremes.{bound_of}
 
--- the least value is in the set
-unfoldable pub LowIsIn : Member → List (List ℤ) → Type 0
-LowIsIn m box = IsIn m.set (term_low box m.x)
-
--- the greatest value is in the set
-unfoldable pub HighIsIn : Member → List (List ℤ) → Type 0
-HighIsIn m box = IsIn m.set (term_high box m.x)
+-- a bound is in the set
+unfoldable pub BoundIsIn : Extreme → Member → List (List ℤ) → Type 0
+BoundIsIn e m box = IsIn m.set (bound_of e m.x box)
 
 -- a value that propagation looks at is in the set
 unfoldable pub ValueIsIn : Member → ℤ → List (List ℤ) → Type 0

@@ -3,4 +3,3 @@ pub mod Parts
 pub mod Opens
 pub mod Inside
 pub mod Neighbours
-pub mod Owing

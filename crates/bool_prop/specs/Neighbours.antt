@@ -1,25 +1,18 @@
 -- Numbers of a set next to a number.
 use Rattle.std.specs.Prelude.{ℕ, ◌<◌, ◌≤◌, List, length, slice_index_or, ℤ, ◌≤ℤ◌, ◌<ℤ◌}
 use Rattle.fzn_model.specs.Sets.{IsIn}
+use Rattle.dom_store.specs.declared.extreme.Extreme.{Extreme}
+use Rattle.dom_store.specs.Extremes.{Bounds}
 
--- the least number of the set that is at least the low
-pub record IsNext (set : List (ℤ × ℤ)) (low number : ℤ) : Type 0 where
+-- the number of the set next to a bound: the least that is at least it, or the greatest that is at most
+pub record IsNear (e : Extreme) (set : List (ℤ × ℤ)) (bound number : ℤ) : Type 0 where
   pub has : IsIn set number
-  pub from : low ≤ℤ number
-  pub least : (z : ℤ) → IsIn set z → low ≤ℤ z → number ≤ℤ z
+  pub bounded : Bounds e bound number
+  pub nearest : (z : ℤ) → IsIn set z → Bounds e bound z → Bounds e number z
 
--- the greatest number of the set that is at most the high
-pub record IsPrevious (set : List (ℤ × ℤ)) (high number : ℤ) : Type 0 where
-  pub has : IsIn set number
-  pub to : number ≤ℤ high
-  pub greatest : (z : ℤ) → IsIn set z → z ≤ℤ high → z ≤ℤ number
-
--- no number of the set is at least the low, or at most the high
-unfoldable pub NoneFrom : List (ℤ × ℤ) → ℤ → Type 0
-NoneFrom set low = (z : ℤ) → IsIn set z → low ≤ℤ z → ⊥
-
-unfoldable pub NoneTo : List (ℤ × ℤ) → ℤ → Type 0
-NoneTo set high = (z : ℤ) → IsIn set z → z ≤ℤ high → ⊥
+-- no number of the set is at least the bound, or at most
+unfoldable pub NoneNear : Extreme → List (ℤ × ℤ) → ℤ → Type 0
+NoneNear e set bound = (z : ℤ) → IsIn set z → Bounds e bound z → ⊥
 
 -- the first runs begin at most at the number, and all others do not
 pub record BeginBy (set : List (ℤ × ℤ)) (number : ℤ) (count : ℕ) : Type 0 where

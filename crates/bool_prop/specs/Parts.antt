@@ -1,6 +1,4 @@
 -- Constraints from their parts.
-use Rattle.std.specs.Prelude.{List, ℤ}
-use Rattle.fzn_model.specs.declared.term.Term.{Term}
 use Rattle.fzn_model.specs.declared.clause.Clause.{Clause}
 use Rattle.fzn_model.specs.declared.member.Member.{Member}
 use Rattle.fzn_model.specs.declared.base.Base.TheVariants as base
@@ -9,14 +7,8 @@ use Rattle.fzn_model.specs.declared.con.Con.TheVariants as con
 use Rattle.bool_prop.specs.declared.clause_prop.Kind.{Kind}
 use Rattle.bool_prop.specs.declared.clause_prop.Kind.TheVariants as kind
 
-abbrev pub clause_of : List Term → List Term → Clause
-clause_of pos neg = record { pos = pos; neg = neg }
-
 abbrev pub clause_con : Clause → Con
 clause_con c = con.Base (base.Clause c)
-
-abbrev pub member_of : Term → List (ℤ × ℤ) → Member
-member_of x set = record { x = x; set = set }
 
 abbrev pub member_con : Member → Con
 member_con m = con.Base (base.Member m)

@@ -2,11 +2,11 @@ ghost use Rattle.std.specs.Prelude.{◌≡◌, ◌↔◌, ◌<◌, All, Any, IsT
 ghost use Rattle.fzn_model.specs.Boxes.{IsBox};
 ghost use Rattle.fzn_model.specs.Limits.{TermIn, ClauseInLimits};
 ghost use Rattle.fzn_model.specs.Bounds.{IsAt, is_open};
-ghost use Rattle.dom_store.specs.Strength.{HasTrue};
-ghost use Rattle.bool_prop.specs.Parts.{clause_of, clause_con};
+ghost use Rattle.dom_store.specs.Strength.{HasTrue, ConIsOwed};
+ghost use Rattle.dom_store.specs.Bases.{clause_of};
+ghost use Rattle.bool_prop.specs.Parts.{clause_con};
 ghost use Rattle.bool_prop.specs.Opens.{opens, Finds, IsLast};
 ghost use Rattle.dom_store.specs.Steps.{Step};
-ghost use Rattle.bool_prop.specs.Owing.{ConIsOwed};
 ghost use Rattle.fzn_model.specs.Meaning.{Holds};
 
 use dom_store::{Passed, Store, fix, greatest, least, recall_domains};

@@ -3,7 +3,7 @@ ghost use Rattle.fzn_model.specs.Booleans.{FitsBox};
 ghost use Rattle.bool_prop.specs.Kinds.{IsClausal};
 ghost use Rattle.bool_prop.specs.Parts.{con_of};
 ghost use Rattle.dom_store.specs.Steps.{Step};
-ghost use Rattle.bool_prop.specs.Owing.{ConIsOwed};
+ghost use Rattle.dom_store.specs.Strength.{ConIsOwed};
 ghost use Rattle.fzn_model.specs.Meaning.{Holds};
 
 use crate::clause::pass_clause;

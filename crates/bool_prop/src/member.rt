@@ -4,41 +4,27 @@ ghost use Rattle.fzn_model.specs.Boxes.{IsBox};
 ghost use Rattle.fzn_model.specs.Limits.{TermIn};
 ghost use Rattle.fzn_model.specs.Meaning.{Holds};
 ghost use Rattle.dom_store.specs.Steps.{Step};
-ghost use Rattle.bool_prop.specs.Parts.{member_of, member_con};
-ghost use Rattle.bool_prop.specs.Inside.{LowIsIn, HighIsIn, ValueIsIn, ValuesAreIn, EachIsIn};
-ghost use Rattle.bool_prop.specs.Owing.{ConIsOwed};
+ghost use Rattle.dom_store.specs.Bases.{member_of};
+ghost use Rattle.bool_prop.specs.Parts.{member_con};
+ghost use Rattle.bool_prop.specs.Inside.{BoundIsIn, ValueIsIn, ValuesAreIn, EachIsIn};
+ghost use Rattle.dom_store.specs.Strength.{ConIsOwed};
 
-use crate::neighbours::{next_in, previous_in};
-use dom_store::{Passed, Store, can_have, cut_above, cut_below, drop_value, greatest, least};
+use crate::neighbours::near_in;
+use dom_store::{
+    Extreme, Passed, Store, bound, can_have, cut, drop_value, greatest, is_wide, least,
+};
 use fzn_model::{Runs, Term};
 
-/// How many numbers the hull of a variable with a bitmap has at most.
-const NARROW: i64 = 1024;
-
-/// Cuts a term below the number of the set that is next to its least value.
-#[tactic(auto, using(crate::proofs::Members::none_from_low))]
-fn cut_below_next(store: &mut Store, x: Term, set: &Runs) -> Passed
+/// Cuts a term to the number of the set that is next to one of its bounds.
+#[tactic(auto, using(crate::proofs::Members::none_near))]
+fn cut_to_near(store: &mut Store, x: Term, extreme: Extreme, set: &Runs) -> Passed
     requires term { TermIn (length store.old.box) x }
     requires set { AreRuns set.now }
-    ensures { Step (LowIsIn (member_of x set.now)) (Holds (member_con (member_of x set.now))) store.old store.new result }
+    ensures { Step (BoundIsIn extreme (member_of x set.now)) (Holds (member_con (member_of x set.now))) store.old store.new result }
 {
-    let low = least(store, x);
-    match next_in(set, &low) {
-        Some(number) => cut_below(store, x, &number),
-        None => Passed::Empty,
-    }
-}
-
-/// Cuts a term above the number of the set that is next to its greatest value.
-#[tactic(auto, using(crate::proofs::Members::none_to_high))]
-fn cut_above_previous(store: &mut Store, x: Term, set: &Runs) -> Passed
-    requires term { TermIn (length store.old.box) x }
-    requires set { AreRuns set.now }
-    ensures { Step (HighIsIn (member_of x set.now)) (Holds (member_con (member_of x set.now))) store.old store.new result }
-{
-    let high = greatest(store, x);
-    match previous_in(set, high) {
-        Some(number) => cut_above(store, x, &number),
+    let number = bound(store, x, extreme);
+    match near_in(set, extreme, &number) {
+        Some(near) => cut(store, x, extreme, &near),
         None => Passed::Empty,
     }
 }
@@ -80,11 +66,11 @@ fn drop_each(store: &mut Store, x: Term, set: &Runs) -> Passed
     requires set { AreRuns set.now }
     ensures { Step (EachIsIn (member_of x set.now)) (Holds (member_con (member_of x set.now))) store.old store.new result }
 {
-    let low = least(store, x);
-    let high = greatest(store, x);
-    if high - low >= NARROW {
+    if is_wide(store, x) {
         return Passed::Done;
     }
+    let low = least(store, x);
+    let high = greatest(store, x);
     drop_from(store, x, set, low, high + 1)
 }
 
@@ -94,11 +80,11 @@ pub(crate) fn pass_member(store: &mut Store, x: Term, set: &Runs) -> Passed
     requires set { AreRuns set.now }
     ensures { Step (ConIsOwed (member_con (member_of x set.now))) (Holds (member_con (member_of x set.now))) store.old store.new result }
 {
-    match cut_below_next(store, x, set) {
+    match cut_to_near(store, x, Extreme::Least, set) {
         Passed::Empty => return Passed::Empty,
         Passed::Done => {}
     }
-    match cut_above_previous(store, x, set) {
+    match cut_to_near(store, x, Extreme::Greatest, set) {
         Passed::Empty => return Passed::Empty,
         Passed::Done => {}
     }

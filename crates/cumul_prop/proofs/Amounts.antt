@@ -21,7 +21,7 @@ use Rattle.cumul_prop.specs.Limits.{Clashes}
 part_least : (u v : Used) (t : ℤ) → v.from ≤ℤ u.from → u.to ≤ℤ v.to → u.amount ≤ℤ v.amount → pos 0 ≤ℤ v.amount → part u t ≤ℤ part v t
 part_least u v t from to amount some = grind (arith, ints)
 
-part_whole : (u : Used) (t : ℤ) → u.from ≤ℤ t → t <ℤ u.to → part u t ≡ u.amount
+pub part_whole : (u : Used) (t : ℤ) → u.from ≤ℤ t → t <ℤ u.to → part u t ≡ u.amount
 part_whole u t from to = grind (arith, ints)
 
 -- ---- all of them

@@ -3,6 +3,7 @@ pub mod Profiling
 pub mod Placing
 pub mod Amounts
 pub mod Fitting
+pub mod Lasting
 pub mod Signing
 pub mod Limiting
 pub mod Owing

@@ -1,62 +1,54 @@
 -- What a pass leaves where it removed nothing.
-use Rattle.std.proofs.Common.{◌≡◌, ℕ, zero, suc, ◌+◌, ◌<◌, List, [], ◌∷◌, ◌++◌, map, length, get_or, ℤ, pos, ◌≤ℤ◌, ◌<ℤ◌, refl, sym, ap, ◌∙◌, subst, arith}
+use Rattle.std.proofs.Common.{◌≡◌, ℕ, zero, suc, ◌+◌, ◌<◌, List, [], ◌∷◌, ◌++◌, map, length, get_or, ℤ, pos, ◌≤ℤ◌, ◌<ℤ◌, refl, sym, ap, ◌∙◌, subst, arith, inl, inr, true}
 use Rattle.std.specs.Prelude.{All, Result, Ok, Err, IfOk}
 use Rattle.std.proofs.lemmas.Int.{ints, clamps}
-use Rattle.std.proofs.lemmas.List.{length-map, length-append, get_or-map, get_or_append_left, get_or-append-add}
+use Rattle.std.proofs.lemmas.List.{length-map, length-append, get_or-map, get_or_append_left, get_or-append-add, get_or_default}
 use Rattle.fzn_model.specs.declared.term.Term.{Term}
 use Rattle.fzn_model.specs.declared.cumulative.CumTask.{CumTask}
 use Rattle.fzn_model.specs.declared.cumulative.Used.{Used}
 use Rattle.fzn_model.specs.declared.con.Con.TheVariants as con
 use Rattle.fzn_model.specs.Booleans.{FitsBox}
 use Rattle.fzn_model.specs.Meaning.{val, amount_at, usage, AreTasks, Holds}
-use Rattle.fzn_model.specs.Starts.{StartsFit, TaskStartsFit}
+use Rattle.fzn_model.specs.Starts.{StartsFit}
 use Rattle.fzn_model.specs.Boxes.{IsBox, InBox}
 use Rattle.fzn_model.specs.Bounds.{term_low, term_high, IsFixed}
 use Rattle.fzn_model.proofs.Terms.{fixed_val, low_to_high}
-use Rattle.fzn_model.proofs.Moments.{starts_enough}
 use Rattle.dom_store.specs.Stores.{Stored}
 use Rattle.dom_store.specs.Narrowing.{HasNone}
 use Rattle.dom_store.specs.declared.pass.Passed.{Passed}
 use Rattle.dom_store.specs.declared.pass.Passed.TheVariants as passed
 use Rattle.dom_store.specs.Passes.{Concludes}
-use Rattle.dom_store.specs.Strength.{part_of, FitsAt, IsChecked, IsOwed}
+use Rattle.dom_store.specs.Strength.{part_of, IsMoment, FitsAt, IsChecked, IsOwed}
 use Rattle.dom_store.specs.Steps.{Step}
 use Rattle.dom_store.proofs.Stepping.{step_none, step_as, step_then, step_end, step_concludes}
-use Rattle.cumul_prop.specs.Parts.{IsReady, IsSigned, AreSignedTo, all_parts, HasMoment, IsUseAt, IsProfileTo, AreWithin}
+use Rattle.cumul_prop.specs.Parts.{IsReady, IsSigned, AreSignedTo, all_parts, IsUseAt, IsProfile, AreWithin}
 use Rattle.cumul_prop.specs.Limits.{AreLimits}
 use Rattle.cumul_prop.specs.Narrowing.{IsSignedAll, LimitedAt, LimitedTo, IsFitted}
 use Rattle.cumul_prop.proofs.Amounts.{parts_fit}
-use Rattle.cumul_prop.proofs.Fitting.{moment_in}
+use Rattle.cumul_prop.proofs.Fitting.{at_moment}
+use Rattle.cumul_prop.proofs.Lasting.{has_length, length_some, lengths_enough}
 use Rattle.cumul_prop.proofs.Signing.{ready_on}
 
 pub ready_first : (box : List (List ℤ)) (ks : List CumTask) (us : List Used) (b : Term) → IsBox box → FitsBox box (con.CumulUsed ks us b) → IsReady box ks us b
 ready_first box ks us b well_formed fits_box = record { well_formed = well_formed; tasks = fits_box.kept.0; used = fits_box.kept.1; capacity = fits_box.kept.2 }
 
 -- ---- what is used for sure fits
-module _ (box : List (List ℤ)) (ks : List CumTask) (us : List Used) (b : Term) (profile : List (ℤ × ℤ)) (ready : IsReady box ks us b) (whole : IsProfileTo (all_parts box ks us) (length (all_parts box ks us)) profile) where
+module _ (box : List (List ℤ)) (ks : List CumTask) (us all : List Used) (b : Term) (profile : List (ℤ × ℤ)) (ready : IsReady box ks us b) (whole : IsProfile box ks us all profile) where
   within_by : (θ : List ℤ) → InBox box θ → Holds (con.CumulUsed ks us b) θ → AreWithin (term_high box b) profile
   unfolding AreWithin IsUseAt
   within_by θ lies holds k d h =
       let is = (whole.each k d h).0 in
+      let same = whole.kept.amounts (get_or profile k d).0 in
       let fits = parts_fit box ks us b (get_or profile k d).0 θ ready lies holds in
-      omega (arith, ints, is, fits)
+      omega (arith, ints, is, same, fits)
 
   pub over_none : (AreWithin (term_high box b) profile → ⊥) → HasNone (Holds (con.CumulUsed ks us b)) box
   over_none over θ lies holds = over (within_by θ lies holds)
 
-  at_moment : (t : ℤ) → AreWithin (term_high box b) profile → HasMoment profile t → amount_at (all_parts box ks us) t ≤ℤ term_high box b
-  unfolding AreWithin IsUseAt
-  at_moment t within (k, q, h, is, e) =
-      let used = (whole.each k q h).0 in
-      let fits = within k q h in
-      let at : (get_or profile k q).0 ≡ t = ap (λ (x : ℤ × ℤ). x.0) is ∙ e in
-      subst (λ (x : ℤ). amount_at (all_parts box ks us) x ≤ℤ term_high box b) at (omega (arith, ints, used, fits))
-
   fitted : (limits : List (ℤ × ℤ)) → AreWithin (term_high box b) profile → AreLimits box ks us b (length ks) limits → LimitedTo ks limits (length ks) box → IsFitted ks us b box
   unfolding LimitedTo LimitedAt
   fitted limits within are limited = record {
-    begins = λ k d h. at_moment _ within (whole.from k d h);
-    parts = λ t moment. at_moment t within (moment_in box ks us profile t whole moment);
+    parts = λ t moment. at_moment box ks us all profile (term_high box b) t whole within (whole.moments t moment);
     starts = λ j k h is some also.
         let limit = are.each j k (pos 0, pos 0) h in
         let bounds = limited j h k (pos 0, pos 0) in
@@ -66,18 +58,17 @@ module _ (box : List (List ℤ)) (ks : List CumTask) (us : List Used) (b : Term)
   }
 
 -- ---- the parts of a pass in a row
-pub none_fits : (ks : List CumTask) (us : List Used) (b : Term) (all : List Used) (profile : List (ℤ × ℤ)) (s : Stored) → IsReady s.box ks us b → all ≡ all_parts s.box ks us → IsProfileTo all (length all) profile
+pub none_fits : (ks : List CumTask) (us : List Used) (b : Term) (all : List Used) (profile : List (ℤ × ℤ)) (s : Stored) → IsReady s.box ks us b → IsProfile s.box ks us all profile
     → (AreWithin (term_high s.box b) profile → ⊥) → Step (IsFitted ks us b) (Holds (con.CumulUsed ks us b)) s s passed.Empty
-none_fits ks us b all profile s ready is whole over = step_none (IsFitted ks us b) (Holds (con.CumulUsed ks us b)) s ready.well_formed
-    (over_none s.box ks us b profile ready (subst (λ (xs : List Used). IsProfileTo xs (length xs) profile) is whole) over)
+none_fits ks us b all profile s ready whole over = step_none (IsFitted ks us b) (Holds (con.CumulUsed ks us b)) s ready.well_formed (over_none s.box ks us all b profile ready whole over)
 
-pub all_fit : (ks : List CumTask) (us : List Used) (b : Term) (all : List Used) (profile limits : List (ℤ × ℤ)) (old new : Stored) (result : Passed) → IsReady old.box ks us b → all ≡ all_parts old.box ks us → IsProfileTo all (length all) profile
+pub all_fit : (ks : List CumTask) (us : List Used) (b : Term) (all : List Used) (profile limits : List (ℤ × ℤ)) (old new : Stored) (result : Passed) → IsReady old.box ks us b → IsProfile old.box ks us all profile
     → AreWithin (term_high old.box b) profile → AreLimits old.box ks us b (length ks) limits → Step (LimitedTo ks limits (length ks)) (Holds (con.CumulUsed ks us b)) old new result → Step (IsFitted ks us b) (Holds (con.CumulUsed ks us b)) old new result
-all_fit ks us b all profile limits old new result ready is whole within are step =
+all_fit ks us b all profile limits old new result ready whole within are step =
     step_as (LimitedTo ks limits (length ks)) (IsFitted ks us b) (Holds (con.CumulUsed ks us b)) old new result
     (λ same limited.
     let here : LimitedTo ks limits (length ks) old.box = subst (LimitedTo ks limits (length ks)) same limited in
-    subst (IsFitted ks us b) (sym same) (fitted old.box ks us b profile ready (subst (λ (xs : List Used). IsProfileTo xs (length xs) profile) is whole) limits within are here))
+    subst (IsFitted ks us b) (sym same) (fitted old.box ks us all b profile ready whole limits within are here))
     step
 
 -- ---- where all terms are fixed
@@ -135,29 +126,31 @@ module _ (box : List (List ℤ)) (ks : List CumTask) (us : List Used) (b : Term)
   whole_is : all_parts box ks us ≡ us ++ map (usage θ) ks
   whole_is = ap (λ (xs : List Used). us ++ xs) (same_uses (part_of box) (usage θ) ks part_is)
 
-  begins_at : (k : ℕ) (d : Used) → k < length (us ++ map (usage θ) ks) → amount_at (us ++ map (usage θ) ks) (get_or (us ++ map (usage θ) ks) k d).from ≤ℤ val b θ
-  begins_at k d h =
-      let one : amount_at (us ++ map (usage θ) ks) (get_or (us ++ map (usage θ) ks) k d).from ≤ℤ term_high box b = subst (λ (xs : List Used). amount_at xs (get_or xs k d).from ≤ℤ term_high box b) whole_is (fits.begins k d (subst (λ (xs : List Used). k < length xs) (sym whole_is) h)) in
+  fits_moment : (t : ℤ) → IsMoment box ks us t → amount_at (us ++ map (usage θ) ks) t ≤ℤ val b θ
+  fits_moment t moment =
+      let one : amount_at (us ++ map (usage θ) ks) t ≤ℤ term_high box b = subst (λ (xs : List Used). amount_at xs t ≤ℤ term_high box b) whole_is (fits.parts t moment) in
       let value = is_capacity in
       let same : term_low box b ≡ term_high box b = capacity in
       omega (arith, ints, one, value, same)
 
   used_start : StartsFit (us ++ map (usage θ) ks) us (val b θ)
-  unfolding StartsFit
-  used_start k d h = subst (λ (u : Used). amount_at (us ++ map (usage θ) ks) u.from ≤ℤ val b θ) (get_or_append_left us (map (usage θ) ks) d k h) (begins_at k d (omega (arith, h, length-append us (map (usage θ) ks))))
+  unfolding StartsFit IsMoment
+  used_start k d h = fits_moment (get_or us k d).from (inl (k, get_or us k d, h, get_or_default us k (get_or us k d) d h, inl refl))
 
-  task_start : TaskStartsFit (us ++ map (usage θ) ks) ks θ (val b θ)
-  unfolding TaskStartsFit
-  task_start j d h =
-      let inside : length us + j < length (us ++ map (usage θ) ks) = omega (arith, h, length-append us (map (usage θ) ks), length-map ks (usage θ)) in
-      let same : get_or (us ++ map (usage θ) ks) (length us + j) (usage θ d) ≡ usage θ (get_or ks j d) = get_or-append-add us (map (usage θ) ks) j (usage θ d) ∙ get_or-map (usage θ) ks j d (usage θ d) h in
-      subst (λ (u : Used). amount_at (us ++ map (usage θ) ks) u.from ≤ℤ val b θ) same (begins_at (length us + j) (usage θ d) inside)
+  task_start : (j : ℕ) (d : CumTask) → j < length ks → has_length θ (get_or ks j d) ≡ true → amount_at (us ++ map (usage θ) ks) (val (get_or ks j d).s θ) ≤ℤ val b θ
+  unfolding IsMoment
+  task_start j d h long =
+      let some = length_some θ (get_or ks j d) long in
+      let start = is_start j d h in
+      let length = is_length j d h in
+      let same : term_low box (get_or ks j d).s ≡ term_high box (get_or ks j d).s = starts j d h in
+      fits_moment (val (get_or ks j d).s θ) (inr (j, get_or ks j d, h, get_or_default ks j (get_or ks j d) d h, (omega (arith, ints, start, same), omega (arith, ints, start, same, length, some))))
 
   pub holds_fixed : Holds (con.CumulUsed ks us b) θ
   holds_fixed =
       let value = is_capacity in
       let some = signed.capacity in
-      (are_tasks, starts_enough us ks θ (val b θ) ready.used are_tasks (omega (arith, ints, value, some)) used_start task_start)
+      (are_tasks, lengths_enough us ks θ (val b θ) ready.used are_tasks (omega (arith, ints, value, some)) used_start task_start)
 
 checked : (box : List (List ℤ)) (ks : List CumTask) (us : List Used) (b : Term) → IsReady box ks us b → IsSignedAll ks b box → IsFitted ks us b box → IsChecked box (con.CumulUsed ks us b)
 unfolding IsChecked

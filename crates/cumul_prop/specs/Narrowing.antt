@@ -4,11 +4,11 @@ use Rattle.fzn_model.specs.declared.term.Term.{Term}
 use Rattle.fzn_model.specs.declared.cumulative.CumTask.{CumTask}
 use Rattle.fzn_model.specs.declared.cumulative.Used.{Used}
 use Rattle.fzn_model.specs.declared.con.Con.TheVariants as con
-use Rattle.fzn_model.specs.Meaning.{val, amount_at, Holds}
+use Rattle.fzn_model.specs.Meaning.{val, Holds}
 use Rattle.fzn_model.specs.Boxes.{InBox}
 use Rattle.fzn_model.specs.Bounds.{term_low, term_high}
 use Rattle.dom_store.specs.Strength.{IsMoment, use_at, FitsAt}
-use Rattle.cumul_prop.specs.Parts.{IsSigned, AreSignedTo, all_parts}
+use Rattle.cumul_prop.specs.Parts.{IsSigned, AreSignedTo}
 
 -- ---- lengths and uses aren't negative
 unfoldable pub SignedAt : List CumTask → ℕ → List (List ℤ) → Type 0
@@ -37,6 +37,5 @@ LimitedTo ks limits n box = (at : ℕ) → at < n → LimitedAt ks limits at box
 
 -- ---- what is used fits
 pub record IsFitted (ks : List CumTask) (us : List Used) (b : Term) (box : List (List ℤ)) : Type 0 where
-  pub begins : (k : ℕ) (d : Used) → k < length (all_parts box ks us) → amount_at (all_parts box ks us) (slice_index_or (all_parts box ks us) k d).from ≤ℤ term_high box b
   pub parts : (t : ℤ) → IsMoment box ks us t → use_at box ks us t ≤ℤ term_high box b
   pub starts : (j : ℕ) (k : CumTask) → j < length ks → k ≡ slice_index_or ks j k → pos 0 <ℤ term_low box k.d → pos 0 <ℤ term_low box k.r → FitsAt box ks us b j k (term_low box k.s) × FitsAt box ks us b j k (term_high box k.s)

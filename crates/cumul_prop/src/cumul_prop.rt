@@ -1,6 +1,7 @@
 ghost use Rattle.std.specs.Prelude.{◌≡◌, IfOk};
 ghost use Rattle.cumul_prop.specs.Kinds.{IsCumulative};
 
+use crate::narrow::Lists;
 use crate::pass_cumulative::pass_cumulative;
 use dom_store::{Pass, Passed, Propagator, Ran, Store, pass_on};
 use fzn_model::{Con, CumTask, List, Term, Used};
@@ -10,10 +11,11 @@ use std::marker::Model;
 /// A propagator for tasks that share a capacity, which contracts see as its constraint.
 #[derive(Drop)]
 pub struct CumulProp {
-    alloc: Global,
     tasks: List<CumTask>,
     used: List<Used>,
     capacity: Term,
+    /// Where a pass puts what it finds out.
+    lists: Lists,
 }
 
 impl Model for CumulProp {
@@ -35,10 +37,10 @@ impl CumulProp {
             unreachable!()
         };
         Ok(CumulProp {
-            alloc,
             tasks: tasks.copy(alloc)?,
             used: used.copy(alloc)?,
             capacity: *capacity,
+            lists: Lists::new(alloc),
         })
     }
 }
@@ -48,11 +50,11 @@ impl Pass for CumulProp {
 
     fn pass(&mut self, store: &mut Store) -> Result<Passed, AllocError> {
         pass_cumulative(
-            self.alloc,
             store,
             self.tasks.as_slice(),
             self.used.as_slice(),
             self.capacity,
+            &mut self.lists,
         )
     }
 }

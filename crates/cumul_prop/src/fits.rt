@@ -65,23 +65,31 @@ fn covers(place: &Place, start: &i64, moment: &i64) -> bool
     *start <= *moment && *moment < *start + place.duration
 }
 
+/// Whether the task doesn't fit at a moment of a list, beside which stands what is used there.
+#[tactic(auto, unfolding(crate::specs::Parts::IsUseAt, crate::specs::Limits::Clashes))]
+fn clashes_with(all: &[Used], used: &(i64, i128), place: &Place) -> bool
+    requires used { IsUseAt all.now used.now }
+    requires place { IsPlace place.now }
+    ensures { IsTrue result ↔ Clashes all.now place.now used.now.0 }
+{
+    is_over(place, &used.0, &used.1)
+}
+
 /// Whether the task clashes at a moment of a list that it covers from a start.
 #[tactic(auto, unfolding(crate::specs::Parts::IsUseAt))]
 fn clashes_in(all: &[Used], used: &(i64, i128), place: &Place, start: &i64) -> bool
-    requires all { AreParts all.now }
     requires used { IsUseAt all.now used.now }
     requires place { IsPlace place.now }
     requires start { IsValue start.now }
     ensures yes { IsTrue result → IsClash all.now place.now start.now used.now.0 }
     ensures no { IsFalse result → Covers place.now start.now used.now.0 → Clashes all.now place.now used.now.0 → ⊥ }
 {
-    covers(place, start, &used.0) && clashes(all, place, &used.0)
+    covers(place, start, &used.0) && clashes_with(all, used, place)
 }
 
 /// The place of the first moment of a list that the task covers from a start, and where it clashes.
 #[tactic(auto, unfolding(crate::specs::Limits::FitsThere))]
 fn clash_there(all: &[Used], profile: &[(i64, i128)], place: &Place, start: &i64) -> Option<usize>
-    requires all { AreParts all.now }
     requires each { All (IsUseAt all.now) profile.now }
     requires place { IsPlace place.now }
     requires start { IsValue start.now }

@@ -11,13 +11,14 @@
 //! Where all terms are fixed, the constraint holds. A first start that doesn't fit because of a moment goes at once to where
 //! the first of the amounts ends that are used there; a last start goes back to where its task ends at that moment.
 //!
-//! What it costs: a pass over n tasks and used amounts takes a number of steps that grows with the cube of n, and memory
-//! for the compulsory parts and what is used where they begin and end. A run makes passes until one removes nothing.
+//! What it costs: a pass over n tasks and used amounts takes a number of steps that grows with the square of n, and less
+//! where few tasks have a compulsory part. The memory for the compulsory parts, for what is used where they begin, and for
+//! what the starts can be, stays for later passes. A run makes passes until one removes nothing.
 //!
 //! What it stands on: dom_store for stores and terms, fzn_model for constraints.
 #![tactic(auto)]
 
-// What is used for sure: compulsory parts, and how much is used where they begin and end.
+// What is used for sure: compulsory parts, and how much is used at which moments.
 mod parts;
 mod profile;
 

@@ -1,16 +1,16 @@
 //! What the starts of the tasks can be.
-ghost use Rattle.std.specs.Prelude.{◌≡◌, ◌<◌, pos, length, IsTrue, IfOk, slice_index_or, ◌↔◌};
+ghost use Rattle.std.specs.Prelude.{◌≡◌, ◌<◌, pos, length, All, IsTrue, OnOk, slice_index_or, ◌↔◌};
 ghost use Rattle.fzn_model.specs.declared.term.Term.TheVariants as term;
 ghost use Rattle.fzn_model.specs.Limits.{TermIn, IsValue};
 ghost use Rattle.fzn_model.specs.Bounds.{term_low, term_high};
-ghost use Rattle.cumul_prop.specs.Parts.{IsReady, AreParts, IsProfileTo, all_parts};
+ghost use Rattle.cumul_prop.specs.Parts.{IsReady, AreParts, IsUseAt, IsProfile, AreWithin};
 ghost use Rattle.cumul_prop.specs.Limits.{IsPlace, IsPlaceOf, NeedsPlace, IsLeast, IsGreatest, IsLimit, AreLimits};
 
 use crate::fits::{Place, greatest_start, least_start};
 use crate::parts::compulsory;
 use dom_store::{Store, greatest, least};
 use fzn_model::{CumTask, Term, Used};
-use std::alloc::{AllocError, Global};
+use std::alloc::AllocError;
 
 /// Whether a task has a length and a use for sure.
 #[tactic(auto, unfolding(crate::specs::Limits::NeedsPlace))]
@@ -57,7 +57,7 @@ fn starts_of(
     bounds: &(i64, i64),
 ) -> (i64, i64)
     requires all { AreParts all.now }
-    requires profile { IsProfileTo all.now (length all.now) profile.now }
+    requires profile { All (IsUseAt all.now) profile.now }
     requires place { IsPlace place.now }
     requires bounds { IsValue bounds.now.0 × IsValue bounds.now.1 }
     ensures least { IsLeast all.now profile.now place.now bounds.now.0 result.0 }
@@ -69,8 +69,8 @@ fn starts_of(
     )
 }
 
-/// What the start of a task can be.
-#[tactic(auto, using(crate::proofs::Fitting::limit_placed, crate::proofs::Fitting::limit_unplaced))]
+/// What the start of a task can be. A fixed one fits where what is used for sure does.
+#[tactic(auto, using(crate::proofs::Fitting::limit_placed, crate::proofs::Fitting::limit_unplaced, crate::proofs::Fitting::limit_fixed))]
 fn limit_of(
     store: &Store,
     tasks: &[CumTask],
@@ -81,14 +81,16 @@ fn limit_of(
     at: usize,
 ) -> (i64, i64)
     requires ready { IsReady store.now.box tasks.now used.now capacity }
-    requires whole { all.now ≡ all_parts store.now.box tasks.now used.now }
-    requires all { AreParts all.now }
-    requires profile { IsProfileTo all.now (length all.now) profile.now }
+    requires profile { IsProfile store.now.box tasks.now used.now all.now profile.now }
+    requires within { AreWithin (term_high store.now.box capacity) profile.now }
     requires at { at < length tasks.now }
     ensures { IsLimit store.now.box tasks.now used.now capacity at (slice_index_or tasks.now at (record { s = term.Const (pos 0); d = term.Const (pos 0); r = term.Const (pos 0) })) result }
 {
     let task = &tasks[at];
     let bounds = bounds_of(store, task);
+    if bounds.0 == bounds.1 {
+        return bounds;
+    }
     if !needs_place(store, task) {
         return bounds;
     }
@@ -96,25 +98,24 @@ fn limit_of(
     starts_of(all, profile, &place, &bounds)
 }
 
-/// What the starts of all tasks can be.
-pub(crate) fn limits_of(
-    alloc: Global,
+/// Puts what the starts of all tasks can be in a list.
+pub(crate) fn put_limits(
     store: &Store,
     tasks: &[CumTask],
     used: &[Used],
     capacity: Term,
     all: &[Used],
     profile: &[(i64, i128)],
-) -> Result<Vec<(i64, i64)>, AllocError>
+    limits: &mut Vec<(i64, i64)>,
+) -> Result<(), AllocError>
     requires ready { IsReady store.now.box tasks.now used.now capacity }
-    requires whole { all.now ≡ all_parts store.now.box tasks.now used.now }
-    requires all { AreParts all.now }
-    requires profile { IsProfileTo all.now (length all.now) profile.now }
-    ensures { IfOk result (λ limits. AreLimits store.now.box tasks.now used.now capacity (length tasks.now) limits.items) }
+    requires profile { IsProfile store.now.box tasks.now used.now all.now profile.now }
+    requires within { AreWithin (term_high store.now.box capacity) profile.now }
+    ensures { OnOk result (AreLimits store.now.box tasks.now used.now capacity (length tasks.now) limits.new.items) }
 {
-    let mut limits = Vec::new(alloc);
+    limits.clear();
     for at in 0..tasks.len() {
         limits.push(limit_of(store, tasks, used, capacity, all, profile, at))?;
     }
-    Ok(limits)
+    Ok(())
 }

@@ -1,5 +1,5 @@
 //! Compulsory parts, and what is used at a moment.
-ghost use Rattle.std.specs.Prelude.{◌≡◌, ◌*◌, ◌^◌, ◌≤◌, ◌≤ℤ◌, ◌+ℤ◌, pos, length, unsigned_abs, IfOk};
+ghost use Rattle.std.specs.Prelude.{◌≡◌, ◌*◌, ◌^◌, ◌≤◌, ◌≤ℤ◌, ◌+ℤ◌, pos, length, unsigned_abs, OnOk};
 ghost use Rattle.std.specs.Int.{int_max};
 ghost use Rattle.fzn_model.specs.Values.{largest};
 ghost use Rattle.fzn_model.specs.declared.cumulative.Used.{Used};
@@ -8,11 +8,11 @@ ghost use Rattle.fzn_model.specs.Bounds.{term_low};
 ghost use Rattle.fzn_model.specs.Meaning.{amount_at};
 ghost use Rattle.fzn_model.proofs.Moments.{part};
 ghost use Rattle.dom_store.specs.Strength.{part_of};
-ghost use Rattle.cumul_prop.specs.Parts.{all_parts, IsPart, AreParts};
+ghost use Rattle.cumul_prop.specs.Parts.{all_parts, IsPart, AreParts, IsGathered, IsKept};
 
 use dom_store::{Store, greatest, least};
 use fzn_model::{CumTask, Used};
-use std::alloc::{AllocError, Global};
+use std::alloc::AllocError;
 
 /// The first end of a task.
 fn first_end(store: &Store, task: &CumTask) -> i64
@@ -46,24 +46,36 @@ pub(crate) fn compulsory(store: &Store, task: &CumTask) -> Used
     }
 }
 
-/// The used amounts, and the compulsory parts of all tasks behind them.
-#[tactic(auto, using(crate::proofs::Gathering::used_parts, crate::proofs::Gathering::all_gathered))]
-pub(crate) fn parts(
-    alloc: Global,
+/// Adds an amount that is used at some moment; else nothing.
+fn add_part(kept: &mut Vec<Used>, part: &Used) -> Result<(), AllocError>
+    ensures { OnOk result (IsGathered part.now kept.old.items kept.new.items) }
+{
+    if part.to <= part.from {
+        return Ok(());
+    }
+    kept.push(*part)?;
+    Ok(())
+}
+
+/// Puts the used amounts in a list, and behind them the compulsory parts that aren't empty.
+#[tactic(auto, using(crate::proofs::Gathering::used_parts, crate::proofs::Gathering::kept_none))]
+pub(crate) fn put_parts(
     store: &Store,
     tasks: &[CumTask],
     used: &[Used],
-) -> Result<Vec<Used>, AllocError>
+    kept: &mut Vec<Used>,
+) -> Result<(), AllocError>
     requires tasks { TasksInLimits (length store.now.box) tasks.now }
     requires used { UsedInLimits of_call used.now }
-    ensures value { IfOk result (λ all. all.items ≡ all_parts store.now.box tasks.now used.now) }
-    ensures parts { IfOk result (λ all. AreParts all.items) }
+    ensures kept { OnOk result (IsKept used.now (all_parts store.now.box tasks.now used.now) kept.new.items) }
+    ensures parts { OnOk result (AreParts kept.new.items) }
 {
-    let mut all = Vec::from_slice(alloc, used)?;
+    kept.clear();
+    kept.extend_from_slice(used)?;
     for task in tasks {
-        all.push(compulsory(store, task))?;
+        add_part(kept, &compulsory(store, task))?;
     }
-    Ok(all)
+    Ok(())
 }
 
 /// What is used of an amount at a moment.

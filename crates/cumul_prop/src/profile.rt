@@ -1,11 +1,11 @@
-//! What is used at the moments where used amounts and compulsory parts begin and end.
-ghost use Rattle.std.specs.Prelude.{◌≡◌, ◌↔◌, ◌+◌, ◌<◌, ℤ, All, IsTrue, length, IfOk, OnOk};
+//! What is used at the moments where used amounts begin and end, and compulsory parts begin.
+ghost use Rattle.std.specs.Prelude.{◌≡◌, ◌↔◌, ◌≤◌, ℤ, All, IsTrue, length, OnOk};
 ghost use Rattle.fzn_model.specs.Limits.{IsNear};
 ghost use Rattle.cumul_prop.specs.Parts.{AreParts, IsUseAt, HasMoment, IsProfileTo, AreWithin};
 
 use crate::parts::load;
 use fzn_model::Used;
-use std::alloc::{AllocError, Global};
+use std::alloc::AllocError;
 
 /// What is used at a moment, beside the moment.
 #[tactic(auto, unfolding(crate::specs::Parts::IsUseAt))]
@@ -31,28 +31,45 @@ fn add_moment(profile: &mut Vec<(i64, i128)>, all: &[Used], moment: &i64) -> Res
     Ok(())
 }
 
-/// Adds what is used where one of the amounts begins, and where it ends.
-fn add_ends(profile: &mut Vec<(i64, i128)>, all: &[Used], at: usize) -> Result<(), AllocError>
+/// Adds what is used where each of the amounts begins.
+fn add_begins(profile: &mut Vec<(i64, i128)>, all: &[Used]) -> Result<(), AllocError>
     requires parts { AreParts all.now }
-    requires at { at < length all.now }
-    requires profile { IsProfileTo all.now at profile.old.items }
-    ensures { OnOk result (IsProfileTo all.now (at + 1) profile.new.items) }
+    requires profile { IsProfileTo all.now 0 0 profile.old.items }
+    ensures { OnOk result (IsProfileTo all.now (length all.now) 0 profile.new.items) }
 {
-    add_moment(profile, all, &all[at].from)?;
-    add_moment(profile, all, &all[at].to)?;
+    for at in 0..all.len() {
+        add_moment(profile, all, &all[at].from)?;
+    }
     Ok(())
 }
 
-/// What is used at each moment where an amount begins or ends.
-pub(crate) fn profile_of(alloc: Global, all: &[Used]) -> Result<Vec<(i64, i128)>, AllocError>
-    requires { AreParts all.now }
-    ensures { IfOk result (λ profile. IsProfileTo all.now (length all.now) profile.items) }
+/// Adds what is used where each of the first amounts ends.
+fn add_ends(profile: &mut Vec<(i64, i128)>, all: &[Used], count: usize) -> Result<(), AllocError>
+    requires parts { AreParts all.now }
+    requires count { count ≤ length all.now }
+    requires profile { IsProfileTo all.now (length all.now) 0 profile.old.items }
+    ensures { OnOk result (IsProfileTo all.now (length all.now) count profile.new.items) }
 {
-    let mut profile = Vec::new(alloc);
-    for at in 0..all.len() {
-        add_ends(&mut profile, all, at)?;
+    for at in 0..count {
+        add_moment(profile, all, &all[at].to)?;
     }
-    Ok(profile)
+    Ok(())
+}
+
+/// Puts what is used where amounts begin, and where the first of them end, in a list.
+#[tactic(auto, using(crate::proofs::Profiling::profile_none))]
+pub(crate) fn put_profile(
+    profile: &mut Vec<(i64, i128)>,
+    all: &[Used],
+    count: usize,
+) -> Result<(), AllocError>
+    requires parts { AreParts all.now }
+    requires count { count ≤ length all.now }
+    ensures { OnOk result (IsProfileTo all.now (length all.now) count profile.new.items) }
+{
+    profile.clear();
+    add_begins(profile, all)?;
+    add_ends(profile, all, count)
 }
 
 /// Whether at each of the moments at most so much is used.

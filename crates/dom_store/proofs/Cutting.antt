@@ -5,7 +5,7 @@ use Rattle.std.specs.Ordering.{int_eq}
 use Rattle.std.proofs.lemmas.Int.{ints}
 use Rattle.std.proofs.lemmas.Bool.{false≢true, cases_eq, and_parts}
 use Rattle.std.proofs.lemmas.Bool.Decides.{Decides-int_eq}
-use Rattle.std.proofs.lemmas.List.{get_or-set_other, set-get_or}
+use Rattle.std.proofs.lemmas.List.{get_or-set_same, get_or-set_other, set-get_or}
 use Rattle.int_domain.specs.declared.narrow.Narrow.{Narrow}
 use Rattle.int_domain.specs.declared.narrow.Narrow.TheVariants.{Same, Changed, Empty}
 use Rattle.int_domain.specs.Narrowing.{Narrows, DropsValue, is_held}
@@ -15,7 +15,8 @@ use Rattle.int_domain.proofs.Narrowed.{le_from_test, test_from_le, lt_from_test}
 use Rattle.fzn_model.specs.declared.term.Term.TheVariants as term
 use Rattle.fzn_model.specs.Boxes.{IsBox, IsDomain, domain_at, low_value, high_value}
 use Rattle.dom_store.specs.Stores.{Stored, box_size}
-use Rattle.dom_store.specs.Narrowing.{AltersOnly}
+use Rattle.mark_set.specs.Marks.{IsUnmarked}
+use Rattle.dom_store.specs.Narrowing.{AltersOnly, Stays}
 use Rattle.dom_store.specs.Cuts.{Cuts}
 use Rattle.dom_store.specs.declared.domain.Cut.{Cut}
 use Rattle.dom_store.specs.declared.domain.Cut.TheVariants as cut
@@ -101,22 +102,54 @@ tests_others value z = not_tests (int_eq z value) (z ≡ value) (tests_one value
 elsewhere_at : (box new : List (List ℤ)) (var k : ℕ) (d : List ℤ) → new ≡ set box var d → (k ≡ var → ⊥) → domain_at new k ≡ domain_at box k
 elsewhere_at box new var k d is apart = ap (λ b. domain_at b k) is ∙ get_or-set_other box var k d [] apart
 
-stored_same : (old new : Stored) → new.box ≡ old.box → new.saved ≡ old.saved → new.changes ≡ old.changes → new ≡ old
-stored_same old new box saved changes =
-    ap (λ b. record { box = b; saved = new.saved; changes = new.changes }) box
-    ∙ ap (λ l. record { box = old.box; saved = l; changes = new.changes }) saved
-    ∙ ap (λ n. record { box = old.box; saved = old.saved; changes = n }) changes
+stored_same : (old new : Stored) → new.box ≡ old.box → new.saved ≡ old.saved → new.settled ≡ old.settled → new.touched ≡ old.touched → new.changes ≡ old.changes → new ≡ old
+stored_same old new box saved settled touched changes =
+    ap (λ b. record { box = b; saved = new.saved; settled = new.settled; touched = new.touched; changes = new.changes }) box
+    ∙ ap (λ l. record { box = old.box; saved = l; settled = new.settled; touched = new.touched; changes = new.changes }) saved
+    ∙ ap (λ o. record { box = old.box; saved = old.saved; settled = o; touched = new.touched; changes = new.changes }) settled
+    ∙ ap (λ m. record { box = old.box; saved = old.saved; settled = old.settled; touched = m; changes = new.changes }) touched
+    ∙ ap (λ n. record { box = old.box; saved = old.saved; settled = old.settled; touched = old.touched; changes = n }) changes
+
+-- nothing changed
+still_stays : (var : ℕ) (old new : Stored) → new.saved ≡ old.saved → new.settled ≡ old.settled → new.touched ≡ old.touched
+    → ((k : ℕ) → (k ≡ var → ⊥) → domain_at new.box k ≡ domain_at old.box k) → domain_at new.box var ≡ domain_at old.box var → old.changes ≤ new.changes → Stays old new
+still_stays var old new saved settled touched elsewhere same rises = record {
+  saved = saved;
+  settled = settled;
+  marks = λ k un. sym (ap (λ m. slice_index_or m k false) touched) ∙ un;
+  untouched = λ k un. elim (cases_eq k var) [ inl is ↦ ap (domain_at new.box) is ∙ same ∙ sym (ap (domain_at old.box) is) | inr apart ↦ elsewhere k apart ];
+  changes = rises;
+}
 
 same_box : (var : ℕ) (old new : Stored) (answer : Narrow) → AltersOnly var answer old new → domain_at new.box var ≡ domain_at old.box var → new.box ≡ old.box
 same_box var old new answer alters same = alters.box ∙ ap (set old.box var) same ∙ set-get_or old.box var []
 
 same_store : (var : ℕ) (old new : Stored) (answer : Narrow) → AltersOnly var answer old new → (answer ≡ Changed → ⊥) → domain_at new.box var ≡ domain_at old.box var → new ≡ old
-same_store var old new Same alters not_changed same = stored_same old new (same_box var old new Same alters same) alters.saved alters.changes
+same_store var old new Same alters not_changed same = stored_same old new (same_box var old new Same alters same) alters.saved alters.settled alters.touched alters.changes
 same_store var old new Changed alters not_changed same = absurd (not_changed refl)
-same_store var old new Empty alters not_changed same = stored_same old new (same_box var old new Empty alters same) alters.saved alters.changes
+same_store var old new Empty alters not_changed same = stored_same old new (same_box var old new Empty alters same) alters.saved alters.settled alters.touched alters.changes
 
 same_count : (var : ℕ) (old new : Stored) (answer : Narrow) → AltersOnly var answer old new → length new.box ≡ length old.box
 same_count var old new answer alters = ap length alters.box ∙ length-set old.box var (domain_at new.box var)
+
+-- a variable whose domain changed is marked
+alters_stays : (var : ℕ) (old new : Stored) (answer : Narrow) → AltersOnly var answer old new → ((k : ℕ) → (k ≡ var → ⊥) → domain_at new.box k ≡ domain_at old.box k)
+    → ((answer ≡ Changed → ⊥) → domain_at new.box var ≡ domain_at old.box var) → old.changes ≤ new.changes → Stays old new
+alters_stays var old new Same alters elsewhere same rises = still_stays var old new (alters.saved) (alters.settled) (alters.touched) elsewhere (same (λ e. absurd cc)) rises
+alters_stays var old new Empty alters elsewhere same rises = still_stays var old new (alters.saved) (alters.settled) (alters.touched) elsewhere (same (λ e. absurd cc)) rises
+alters_stays var old new Changed alters elsewhere same rises = record {
+  saved = alters.saved;
+  settled = alters.settled;
+  marks = λ k un. elim (cases_eq k var) [
+    | inl is ↦ absurd (marked k is un)
+    | inr apart ↦ sym (ap (λ m. slice_index_or m k false) alters.touched ∙ get_or-set_other old.touched var k true false apart) ∙ un
+  ];
+  untouched = λ k un. elim (cases_eq k var) [ inl is ↦ absurd (marked k is un) | inr apart ↦ elsewhere k apart ];
+  changes = rises;
+}
+  where
+    marked : (k : ℕ) → k ≡ var → IsUnmarked new.touched k → ⊥
+    marked k is un = false≢true (sym un ∙ ap (λ j. slice_index_or new.touched j false) is ∙ ap (λ m. slice_index_or m var false) alters.touched ∙ get_or-set_same old.touched var true false alters.room)
 
 -- the other domains are as they were
 at_variable : (P : ℕ → Type 0) (var : ℕ) (k : ℕ) → P var → ((k ≡ var → ⊥) → P k) → P k
@@ -137,7 +170,7 @@ keeps_cuts Q var old new answer keeps alters inside falls rises =
       };
       elsewhere = λ k apart. elsewhere k (λ same. apart (ap term.Var (sym same)));
       count = count;
-      stays = record { saved = alters.saved; changes = rises };
+      stays = alters_stays var old new answer alters elsewhere (λ not_changed. keeps.same not_changed) rises;
       same = λ is. same_store var old new answer alters (λ changed. not_both answer Same is changed cc) (keeps.same (λ changed. not_both answer Same is changed cc));
       falls = falls;
       empty = λ is. (
@@ -150,7 +183,7 @@ keeps_cuts Q var old new answer keeps alters inside falls rises =
     not_both a b is changed apart = apart (sym is ∙ changed)
 
 -- ---- a narrowing of a variable
-does_keeps : (c : Cut) (old new : List ℤ) (answer : Narrow) → Does c old new answer → Keeps (kept_by c) old new answer
+pub does_keeps : (c : Cut) (old new : List ℤ) (answer : Narrow) → Does c old new answer → Keeps (kept_by c) old new answer
 unfolding Does
 does_keeps (cut.Below low) old new answer does = narrows_keeps _ _ old new answer (tests_least low) does
 does_keeps (cut.Above high) old new answer does = narrows_keeps _ _ old new answer (tests_most high) does

@@ -1,6 +1,6 @@
 -- A store made of a model lies within the model's domains.
-use Rattle.std.proofs.Common.{◌≡◌, ℕ, zero, suc, ◌⊎◌, inl, inr, List, [], ◌∷◌, ◌++◌, length, get_or, refl, sym, ap, subst, ◌∙◌, arith, ℤ, pos}
-use Rattle.std.specs.Prelude.{All, Contains, Option, IsSome}
+use Rattle.std.proofs.Common.{zero, suc, ◌⊎◌, inl, inr, List, [], ◌∷◌, ◌++◌, get_or, refl, subst, arith, ℤ}
+use Rattle.std.specs.Prelude.{Contains}
 use Rattle.std.proofs.Math.ListN.{get_or-map}
 use Rattle.fzn_model.specs.Sets.{IsIn, IsWithin}
 use Rattle.fzn_model.specs.Parts.{Parts}

@@ -42,10 +42,16 @@ loses_trans P a b c first then = record {
 }
 
 pub stays_refl : (s : Stored) → Stays s s
-stays_refl s = record { saved = refl; changes = omega arith }
+stays_refl s = record { saved = refl; settled = refl; marks = λ k un. un; untouched = λ k un. refl; changes = omega arith }
 
 pub stays_trans : (r s t : Stored) → Stays r s → Stays s t → Stays r t
-stays_trans r s t first then = record { saved = then.saved ∙ first.saved; changes = omega (arith, first.changes, then.changes) }
+stays_trans r s t first then = record {
+  saved = then.saved ∙ first.saved;
+  settled = then.settled ∙ first.settled;
+  marks = λ k un. first.marks k (then.marks k un);
+  untouched = λ k un. then.untouched k un ∙ first.untouched k (then.marks k un);
+  changes = omega (arith, first.changes, then.changes);
+}
 
 pub prunes_refl : (P : List ℤ → Type 0) (s : Stored) → Prunes P s s
 prunes_refl P s = record { loses = loses_refl P s.box; stays = stays_refl s }

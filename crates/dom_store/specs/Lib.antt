@@ -1,4 +1,5 @@
 pub mod Stores
+pub mod Trails
 pub mod Kept
 pub mod Views
 pub mod Narrowing
@@ -8,3 +9,6 @@ pub mod Propagation
 pub mod Passes
 pub mod Answers
 pub mod Steps
+pub mod Sums
+pub mod Extremes
+pub mod Bases

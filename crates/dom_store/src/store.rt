@@ -1,37 +1,49 @@
-ghost use Rattle.std.specs.Prelude.{◌≡◌, ◌<◌, ◌≤◌, ◌↔◌, ◌∷◌, [], int_le, length, drop, slice_index_or, IsNone, IfOk, IfSome, OnOk, OnErr};
+ghost use Rattle.std.specs.Prelude.{◌≡◌, ◌<◌, ◌≤◌, ◌↔◌, ◌∷◌, [], ℕ, int_le, length, drop, slice_index_or, None, IsNone, IfOk, IfSome, IfNone, OnOk, OnErr};
 ghost use Rattle.std.specs.Ordering.{int_eq};
 ghost use Rattle.int_domain.specs.Narrowing.{Narrows, DropsValue};
 ghost use Rattle.fzn_model.specs.Boxes.{IsBox, domain_at};
-ghost use Rattle.dom_store.specs.Stores.{box_size, HasEmpty};
-ghost use Rattle.dom_store.specs.Views.{box_of};
-ghost use Rattle.dom_store.specs.Narrowing.{AltersOnly, changes_by};
-ghost use Rattle.dom_store.specs.Kept.{Does};
+ghost use Rattle.mark_set.specs.Marks.{IsUnmarked, IsClear};
+ghost use Rattle.dom_store.specs.Stores.{box_size, HasEmpty, latest};
+ghost use Rattle.dom_store.specs.Views.{first_store};
+ghost use Rattle.dom_store.specs.Narrowing.{AltersOnly, changes_by, touched_by, TakesTouched, Forgets, Settles};
+ghost use Rattle.dom_store.specs.Trails.{IsTrail, Saves, DiffersAt};
+ghost use Rattle.dom_store.specs.Kept.{Does, Leaves};
 
-use crate::domain::{Cut, high_of, low_of, only_value, size_of};
+use crate::domain::{Cut, high_of, is_idle, low_of, only_value, size_of};
 use crate::domains::{Domains, domains_of};
+use crate::entry::Entry;
+use crate::level::Level;
+use crate::trail::Trail;
 use fzn_model::{BoxView, Model};
 use int_domain::{Domain, Narrow};
+use mark_set::MarkSet;
 use std::alloc::{AllocError, Global};
 
 /// The domains of all variables, with levels.
 #[derive(Drop)]
 pub struct Store {
     domains: Domains,
-    /// The domains at each push that was not popped, the latest last.
-    saved: Vec<Domains>,
+    /// The domains that variables had before they were narrowed.
+    trail: Trail,
+    /// The places in the trail at each push that was not popped, the latest last.
+    levels: Vec<Level>,
+    /// How many entries the trail had at the latest settling, where there was one.
+    settled: Option<usize>,
+    /// The variables whose domains changed, until they are taken.
+    touched: MarkSet,
     /// How often a narrowing changed a domain.
     changes: u64,
 }
 
 impl std::marker::Model for Store {
-    ghost use Rattle.std.specs.Prelude.{reverse};
-    ghost use Rattle.dom_store.specs.Stores.{Stored, IsStore};
+    ghost use Rattle.dom_store.specs.Stores.{Stored};
+    ghost use Rattle.dom_store.specs.Trails.{stored_of, IsStoreOf};
 
     ghost Value = { Stored };
 
-    ghost view = { λ s. record { box = s.domains; saved = reverse s.saved.items; changes = s.changes } };
+    ghost view = { λ s. stored_of s.domains s.trail s.levels.items s.settled s.touched s.changes };
 
-    ghost invariant = { λ s. IsStore (record { box = s.domains; saved = reverse s.saved.items; changes = s.changes }) };
+    ghost invariant = { λ s. IsStoreOf s.domains s.trail s.levels.items s.settled s.touched s.changes };
 }
 
 /// The count of changes after a narrowing.
@@ -45,18 +57,57 @@ fn count_change(changes: u64, answer: Narrow) -> u64
     }
 }
 
+/// Saves the domain of a variable, where a narrowing may change it and it isn't saved yet.
+fn save(trail: &mut Trail, domains: &Domains, var: u32, cut: Cut)
+    requires inside { var < length domains.now }
+    requires marks { length trail.old.marks ≡ length domains.now }
+    requires kept { IsTrail trail.old }
+    ensures saves { Saves domains.now trail.old trail.new }
+    ensures kept { IsTrail trail.new }
+    ensures leaves { IsUnmarked trail.new.marks var → Leaves cut (domain_at domains.now var) }
+{
+    let domain = &domains.as_slice()[var as usize];
+    if is_idle(domain, cut) || trail.has(var) {
+        return;
+    }
+    trail.save(var, domain.copy());
+}
+
+/// The entries from one on.
+fn from(entries: &[Entry], at: usize) -> &[Entry]
+    requires { at ≤ length entries.now }
+    ensures { result.now ≡ drop at entries.now }
+{
+    &entries[at..]
+}
+
+/// Marks the variable where its domain changed.
+fn touch(touched: &mut MarkSet, var: u32, answer: Narrow)
+    requires { var < length touched.old }
+    ensures { touched.new ≡ touched_by answer var touched.old }
+{
+    match answer {
+        Narrow::Changed => touched.add(var),
+        Narrow::Same | Narrow::Empty => {}
+    }
+}
+
 impl Store {
     /// The store with the domains of the model; `None` where one of them is empty.
     pub fn new(alloc: Global, model: &Model) -> Result<Option<Store>, AllocError>
         ensures none { IfOk result (λ made. IsNone made ↔ HasEmpty model.now.doms) }
-        ensures some { IfOk result (λ made. IfSome made (λ s. s ≡ record { box = box_of model.now.doms; saved = []; changes = 0 })) }
+        ensures some { IfOk result (λ made. IfSome made (λ s. s ≡ first_store model.now.doms)) }
     {
         let Some(domains) = domains_of(alloc, model.doms.as_slice())? else {
             return Ok(None);
         };
+        let variables = domains.as_slice().len();
         Ok(Some(Store {
             domains,
-            saved: Vec::new(alloc),
+            trail: Trail::new(alloc, variables)?,
+            levels: Vec::new(alloc),
+            settled: None,
+            touched: MarkSet::new(alloc, variables)?,
             changes: 0,
         }))
     }
@@ -103,7 +154,9 @@ impl Store {
         ensures rises { self.old.changes ≤ self.new.changes }
         ensures well_formed { IsBox self.new.box }
     {
+        save(&mut self.trail, &self.domains, var, cut);
         let answer = self.domains.narrow(var, cut);
+        touch(&mut self.touched, var, answer);
         self.changes = count_change(self.changes, answer);
         answer
     }
@@ -161,13 +214,26 @@ impl Store {
         self.narrow(var, Cut::Drop(value))
     }
 
-    /// Begins a level: keeps the domains for the matching [`Store::pop_level`].
+    /// How many levels there are.
+    #[tactic(auto, using(crate::proofs::Levels::level_count))]
+    pub fn levels(&self) -> usize
+        ensures { result ≡ length self.now.saved }
+    {
+        self.levels.len()
+    }
+
+    /// Begins a level: the domains as they are now come back at the matching [`Store::pop_level`]. Takes memory for one
+    /// domain of each variable, so that no narrowing does.
     pub fn push_level(&mut self) -> Result<(), AllocError>
-        ensures ok { OnOk result (self.new ≡ record self.old { saved = self.old.box ∷ self.old.saved }) }
+        ensures ok { OnOk result (self.new ≡ record self.old { saved = self.old.box ∷ self.old.saved; settled = latest self.old.settled ∷ self.old.settled }) }
         ensures err { OnErr result (self.new ≡ self.old) }
     {
-        let copy = self.domains.copy(*self.saved.allocator())?;
-        self.saved.push(copy)?;
+        self.levels.reserve(1)?;
+        self.trail.renew()?;
+        self.levels.push_reserved(Level {
+            start: self.trail.as_slice().len(),
+            settled: self.settled,
+        });
         Ok(())
     }
 
@@ -176,12 +242,51 @@ impl Store {
         requires pushed { 0 < length self.old.saved }
         ensures domains { self.new.box ≡ slice_index_or self.old.saved 0 [] }
         ensures saved { self.new.saved ≡ drop 1 self.old.saved }
+        ensures settled { self.new.settled ≡ drop 1 self.old.settled }
         ensures changes { self.new.changes ≡ self.old.changes }
     {
-        let Some(domains) = self.saved.pop() else {
+        let Some(level) = self.levels.pop() else {
             return;
         };
-        self.domains = domains;
+        self.trail.take_back(level.start, &mut self.domains);
+        self.settled = level.settled;
+    }
+
+    /// Says that the box as it is now is settled: what is known of it is known of the level's boxes from now on, so far as
+    /// their domains are the same. Where memory is wanting, nothing changes.
+    pub fn settle(&mut self)
+        ensures { Settles self.old self.new }
+    {
+        if let Ok(()) = self.trail.renew() {
+            self.settled = Some(self.trail.as_slice().len());
+        }
+    }
+
+    /// The variables whose domains may differ from those at the latest settling, where there was one.
+    pub fn unsettled(&self) -> Option<&[Entry]>
+        ensures none { IfNone result (latest self.now.settled ≡ None) }
+        ensures some { IfSome result (λ entries. DiffersAt entries.now (latest self.now.settled) self.now.box) }
+    {
+        match self.settled {
+            Some(at) => Some(from(self.trail.as_slice(), at)),
+            None => None,
+        }
+    }
+
+    /// Takes the mark from a variable whose domain changed.
+    pub fn take_touched(&mut self) -> Option<u32>
+        ensures some { IfSome result (λ var. TakesTouched var self.old self.new) }
+        ensures none { IfNone result (IsClear self.old.touched) }
+        ensures same { IfNone result (self.new ≡ self.old) }
+    {
+        self.touched.take()
+    }
+
+    /// Takes the marks from all variables.
+    pub fn forget_touched(&mut self)
+        ensures { Forgets self.old self.new }
+    {
+        self.touched.clear();
     }
 }
 

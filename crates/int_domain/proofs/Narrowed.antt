@@ -1,5 +1,5 @@
 -- Domains as they are kept: their bounds and size, and what a narrowing leaves of them.
-use Rattle.std.proofs.Common.{◌≡◌, ◌≢◌, ℕ, suc, zero, ◌<◌, ◌≤◌, ◌↔◌, List, [], ◌∷◌, length, refl, sym, ap, subst, ◌∙◌, arith, Bool, true, false, cond, not, Option, Some, None, inl, inr, get_or}
+use Rattle.std.proofs.Common.{◌≡◌, ◌≢◌, ℕ, suc, zero, ◌<◌, ◌≤◌, ◌↔◌, List, [], ◌∷◌, length, refl, sym, ap, subst, ◌∙◌, arith, Bool, true, false, cond, not, Option, Some, None, inl, inr, get_or, ⊎_elim}
 use Rattle.std.specs.Int.{int_gap}
 use Rattle.std.specs.Prelude.{ℤ, pos, ◌+ℤ◌, ◌-ℤ◌, ◌≤ℤ◌, ◌<ℤ◌, int_le, int_lt, filter, Contains, MatchBool}
 use Rattle.std.specs.Ordering.{int_eq}
@@ -13,7 +13,7 @@ use Rattle.int_domain.specs.declared.narrow.Narrow.TheVariants.{Same, Changed, E
 use Rattle.int_domain.specs.Values.{numbers_from, range, low_of, high_of, is_wide, IsDomain}
 use Rattle.int_domain.specs.Narrowing.{Narrows, DropsValue, is_held}
 use Rattle.int_domain.specs.Bits.{Covers, marks}
-use Rattle.int_domain.specs.Kept.{keeps, kept_between, FitsHull, IsSound, Reaches}
+use Rattle.int_domain.specs.Kept.{keeps, kept_between, FitsHull, IsSound, IsSized, Reaches}
 use Rattle.int_domain.proofs.Members.{Has, Inside, between, rises_between, has_between, between_has, low_between, high_between, filter_is, empty_by_members, has_filter, same_by_members, rises_range, has_range, range_has, has_get, all_pairs, contains_from_has, has_from_contains, Rises, gap_is}
 
 pub le_from_test : (a b : ℤ) → int_le a b ≡ true → a ≤ℤ b
@@ -54,6 +54,14 @@ length_all_kept low high n h is =
     let same : n ≡ int_gap low (high +ℤ pos 1) = omega (arith, ints) in
     same ∙ sym (ap length (all_kept low high) ∙ length_numbers low (int_gap low (high +ℤ pos 1)))
 
+-- one number alone
+pub one_kept : (v : ℤ) → 1 ≡ length (kept_between None v v)
+one_kept v = length_all_kept v v 1 (omega (arith, ints)) refl
+
+-- a size, at bounds that were passed on
+pub sized_at : (b : Option Bitmap) (low high p q : ℤ) (n : ℕ) → n ≡ length (kept_between b low high) → p ≡ low → q ≡ high → n ≡ length (kept_between b p q)
+sized_at b low high p q n size p_is q_is = rw (p_is, q_is) size
+
 pub wide_is : (b : Option Bitmap) (low high : ℤ) → IsSound b low high → is_wide (kept_between b low high) ≡ int_lt LARGEST_NARROW_HULL (high -ℤ low +ℤ pos 1)
 unfolding is_wide
 wide_is b low high s = rw (low_is_kept b low high s, high_is_kept b low high s) refl
@@ -68,7 +76,7 @@ test_from_lt a b h = grind (arith, ints)
 wide_has_none : (b : Option Bitmap) (low high : ℤ) → FitsHull b low high → LARGEST_NARROW_HULL <ℤ (high -ℤ low +ℤ pos 1) → b ≡ None
 unfolding FitsHull
 wide_has_none None low high fits wide = refl
-wide_has_none (Some b) low high fits wide = let narrow : high <ℤ (low +ℤ LARGEST_NARROW_HULL) = fits.0 in absurd (omega (arith, ints))
+wide_has_none (Some b) low high fits wide = let narrow : high <ℤ (low +ℤ LARGEST_NARROW_HULL) = fits.1 in absurd (omega (arith, ints))
 
 pub kept_has : (b : Option Bitmap) (low high v : ℤ) → Inside (keeps b) low high v → Has v (kept_between b low high)
 unfolding kept_between
@@ -101,8 +109,8 @@ pub reaches_part : (b : Option Bitmap) (low high p q : ℤ) → FitsHull b low h
 unfolding FitsHull Reaches
 reaches_part None low high p q fits h k = tt
 reaches_part (Some b) low high p q fits h k =
-    let from : b.base ≤ℤ low = fits.1.from in
-    let to : high <ℤ (b.base +ℤ LARGEST_NARROW_HULL) = fits.1.to in
+    let from : b.base ≤ℤ low = fits.2.from in
+    let to : high <ℤ (b.base +ℤ LARGEST_NARROW_HULL) = fits.2.to in
     record { from = omega (arith, ints); to = omega (arith, ints) }
 
 -- the ends of what is left are values, and the bitmap fits its hull
@@ -242,6 +250,26 @@ pub fix_same : (b : Option Bitmap) (low high value : ℤ) → Inside (keeps b) l
 fix_same b low high value here one =
     narrows_same (λ x. int_eq x value) b low high (λ v inside. eq_test v value (omega (arith, ints, here.0, here.1, inside.0, inside.1)))
 
+pub none_keeps : (b : Option Bitmap) (value : ℤ) → keeps b value ≡ true → keeps None value ≡ keeps b value
+unfolding keeps
+none_keeps None value kept = refl
+none_keeps (Some m) value kept = sym kept
+
+-- one value alone needs no bitmap
+pub one_sound : (b : Option Bitmap) (low high value : ℤ) → IsSound b low high → Inside (keeps b) low high value → IsSound None value value
+unfolding keeps FitsHull
+one_sound b low high value s inside = record {
+  ordered = omega (arith, ints);
+  low_within = (omega (arith, ints, inside.0, s.low_within.0), omega (arith, ints, inside.1, s.high_within.1));
+  high_within = (omega (arith, ints, inside.0, s.low_within.0), omega (arith, ints, inside.1, s.high_within.1));
+  low_kept = refl;
+  high_kept = refl;
+  hull = inl (omega (arith, ints));
+}
+
+pub sized_one : (p q value : ℤ) → IsSound None value value → p ≡ value → q ≡ value → IsSized None p q 1
+sized_one p q value s p_is q_is = rw (p_is, q_is) (record { sound = s; counted = one_kept value })
+
 pub fix_changes : (b c : Option Bitmap) (low high value p q : ℤ) → IsSound b low high → Inside (keeps b) low high value → (low ≡ high → ⊥)
     → keeps c value ≡ keeps b value → p ≡ value → q ≡ value
     → Narrows (λ x. int_eq x value) (kept_between b low high) (kept_between c p q) Changed
@@ -307,7 +335,7 @@ drop_only b low high value s here one =
 drop_held_none : (low high value : ℤ) → IsSound None low high → low <ℤ value → value <ℤ high → DropsValue value (kept_between None low high) (kept_between None low high) Same
 unfolding DropsValue is_held FitsHull
 drop_held_none low high value s above below =
-    let wide : int_lt LARGEST_NARROW_HULL (high -ℤ low +ℤ pos 1) ≡ true = let hull : (low +ℤ LARGEST_NARROW_HULL) ≤ℤ high = s.hull in test_from_lt LARGEST_NARROW_HULL (high -ℤ low +ℤ pos 1) (omega (arith, ints)) in
+    let wide : int_lt LARGEST_NARROW_HULL (high -ℤ low +ℤ pos 1) ≡ true = let hull : (low +ℤ LARGEST_NARROW_HULL) ≤ℤ high = ⊎_elim (λ few. absurd (omega (arith, ints))) (λ many. many) s.hull in test_from_lt LARGEST_NARROW_HULL (high -ℤ low +ℤ pos 1) (omega (arith, ints)) in
     let held : is_held value (kept_between None low high) ≡ true =
     and_from _ _ (wide_is None low high s ∙ wide)
     (and_from _ _ (test_from_lt _ _ (subst (λ z. z <ℤ value) (sym (low_is_kept None low high s)) above))
@@ -372,9 +400,22 @@ drop_inside b c low high value p q s here above below gone same p_is q_is =
 pub covers_one : (m : Bitmap) (low high v : ℤ) → FitsHull (Some m) low high → low ≤ℤ v → v ≤ℤ high → Covers m v v
 unfolding FitsHull
 covers_one m low high v fits above below =
-    let from : m.base ≤ℤ low = fits.1.from in
-    let to : high <ℤ (m.base +ℤ LARGEST_NARROW_HULL) = fits.1.to in
+    let from : m.base ≤ℤ low = fits.2.from in
+    let to : high <ℤ (m.base +ℤ LARGEST_NARROW_HULL) = fits.2.to in
     record { from = omega (arith, ints); to = omega (arith, ints) }
+
+-- a bitmap with the same base has a place for each of them too
+pub covers_all : (m n : Bitmap) (low high p q : ℤ) → FitsHull (Some m) low high → n.base ≡ m.base → p ≡ low → q ≡ high → Covers n p q
+unfolding FitsHull
+covers_all m n low high p q fits base p_is q_is =
+    let from : m.base ≤ℤ low = fits.2.from in
+    let to : high <ℤ (m.base +ℤ LARGEST_NARROW_HULL) = fits.2.to in
+    record { from = omega (arith, ints); to = omega (arith, ints) }
+
+pub sized_marked : (n : Bitmap) (low high p q : ℤ) (size : ℕ) → size ≡ length (filter (marks n) (range p q)) → IsSound (Some n) low high → p ≡ low → q ≡ high
+    → IsSized (Some n) low high size
+unfolding keeps kept_between
+sized_marked n low high p q size counted sound p_is q_is = record { sound = sound; counted = counted ∙ rw (p_is, q_is) refl }
 
 -- one mark was taken
 pub unmarked_others : (m n : Bitmap) (low high value : ℤ) → FitsHull (Some m) low high
@@ -392,15 +433,15 @@ pub unmarked_sound : (m n : Bitmap) (low high value : ℤ) → IsSound (Some m) 
     → IsSound (Some n) low high
 unfolding FitsHull
 unmarked_sound m n low high value s not_low not_high base same =
-    let from : m.base ≤ℤ low = s.hull.1.from in
-    let to : high <ℤ (m.base +ℤ LARGEST_NARROW_HULL) = s.hull.1.to in
+    let from : m.base ≤ℤ low = s.hull.2.from in
+    let to : high <ℤ (m.base +ℤ LARGEST_NARROW_HULL) = s.hull.2.to in
     record {
       ordered = s.ordered;
       low_within = s.low_within;
       high_within = s.high_within;
       low_kept = same low (omega (arith, ints)) s.ordered (λ e. not_low (sym e)) ∙ s.low_kept;
       high_kept = same high s.ordered (omega (arith, ints)) (λ e. not_high (sym e)) ∙ s.high_kept;
-      hull = (s.hull.0, record { from = omega (arith, ints); to = omega (arith, ints) });
+      hull = (s.hull.0, s.hull.1, record { from = omega (arith, ints); to = omega (arith, ints) });
     }
 
 changed_is_not_same : Changed ≡ Same → ⊥

@@ -203,21 +203,27 @@ one_run [] d h = absurd (omega arith)
 one_run (r ∷ []) d h = append-nil (range r.0 r.1)
 one_run (r ∷ s ∷ rs) d h = absurd (omega arith)
 
--- a wide hull has one run
-wide_has_one : (runs : List Run) (d : Run) (low high : ℤ) → AreRuns runs → 0 < length runs → (1 < length runs → is_wide (values_of runs) ≡ false)
-    → low ≡ (get_or runs 0 d).0 → high ≡ (get_or runs (length runs - 1) d).1 → (low +ℤ LARGEST_NARROW_HULL) ≤ℤ high → length runs ≡ 1
-unfolding is_wide
-wide_has_one runs d low high s some narrow low_is high_is wide =
+-- a hull with no room for a gap, or a wide one, has one run
+hull_has_one : (runs : List Run) (d : Run) (low high : ℤ) → AreRuns runs → 0 < length runs → (1 < length runs → is_wide (values_of runs) ≡ false)
+    → low ≡ (get_or runs 0 d).0 → high ≡ (get_or runs (length runs - 1) d).1 → FitsHull None low high → length runs ≡ 1
+unfolding is_wide FitsHull
+hull_has_one runs d low high s some narrow low_is high_is fits =
     ⊎_elim
-    (λ several. absurd (false≢true (sym (narrow several) ∙ rw (low_of_values runs d s some, high_of_values runs d s some) (test_from_lt LARGEST_NARROW_HULL ((get_or runs (length runs - 1) d).1 -ℤ (get_or runs 0 d).0 +ℤ pos 1) (omega (arith, ints))))))
+    (λ several. ⊎_elim
+    (λ few.
+    let first : (get_or runs 0 d).0 ≤ℤ (get_or runs 0 d).1 = s.ordered 0 d some in
+    let last : (get_or runs (length runs - 1) d).0 ≤ℤ (get_or runs (length runs - 1) d).1 = s.ordered (length runs - 1) d (omega arith) in
+    let gap : ((get_or runs 0 d).1 +ℤ pos 1) <ℤ (get_or runs (length runs - 1) d).0 = s.apart 0 (length runs - 1) d (omega arith) (omega arith) in
+    absurd (omega (arith, ints)))
+    (λ wide. absurd (false≢true (sym (narrow several) ∙ rw (low_of_values runs d s some, high_of_values runs d s some) (test_from_lt LARGEST_NARROW_HULL ((get_or runs (length runs - 1) d).1 -ℤ (get_or runs 0 d).0 +ℤ pos 1) (omega (arith, ints))))))
+    fits)
     (λ few. omega arith)
     (cases_lt 1 (length runs))
 
 pub values_all : (runs : List Run) (d : Run) (low high : ℤ) → AreRuns runs → 0 < length runs → (1 < length runs → is_wide (values_of runs) ≡ false)
     → low ≡ (get_or runs 0 d).0 → high ≡ (get_or runs (length runs - 1) d).1 → FitsHull None low high → kept_between None low high ≡ values_of runs
-unfolding FitsHull
-values_all runs d low high s some narrow low_is high_is wide =
-    all_kept low high ∙ ap (λ z. range z high) low_is ∙ ap (range (get_or runs 0 d).0) high_is ∙ sym (one_run runs d (wide_has_one runs d low high s some narrow low_is high_is wide))
+values_all runs d low high s some narrow low_is high_is fits =
+    all_kept low high ∙ ap (λ z. range z high) low_is ∙ ap (range (get_or runs 0 d).0) high_is ∙ sym (one_run runs d (hull_has_one runs d low high s some narrow low_is high_is fits))
 
 -- what the bitmap of a new domain says
 abbrev pub MarksRuns : List Run → ℤ → ℤ → Option Bitmap → Type 0

@@ -202,20 +202,23 @@ count_step ws from end i word ordered fits inside below above =
         (cases_lt (64 * i + j) end))
         (cases_lt (64 * i + j) from)
 
--- all words
-pub count_all : (ws : List ℕ) (from end : ℕ) → from ≤ end → end ≤ 1024 → total (masked ws from end) 0 1024 ≡ set_between ws from end
+-- words in front of the first place
+pub count_none : (ws : List ℕ) (from end n : ℕ) → n ≤ from → total (masked ws from end) 0 n ≡ 0
+count_none ws from end n front = total_none (masked ws from end) 0 n (λ k p q. masked_below ws from end k (omega arith))
+
+-- the words up to the last place
+pub count_all : (ws : List ℕ) (from end n : ℕ) → from ≤ end → end ≤ n → total (masked ws from end) 0 n ≡ set_between ws from end
 unfolding set_between
-count_all ws from end ordered within =
+count_all ws from end n ordered within =
     let m : ℕ → ℕ = masked ws from end in
-    let first : from + (1024 - from) ≡ 1024 = omega arith in
-    let second : (end - from) + (1024 - end) ≡ 1024 - from = omega arith in
+    let first : from + (n - from) ≡ n = omega arith in
+    let second : (end - from) + (n - end) ≡ n - from = omega arith in
     let stop : from + (end - from) ≡ end = omega arith in
-    let front : total m 0 from ≡ 0 = total_none m 0 from (λ k p q. masked_below ws from end k (omega arith)) in
     let middle : total m from (end - from) ≡ total (bit_of ws) from (end - from) = total_shift m (bit_of ws) from from (end - from) (λ k p. masked_inside ws from end (from + k) (omega arith) (omega arith)) in
-    let back : total m end (1024 - end) ≡ 0 = total_none m end (1024 - end) (λ k p q. masked_above ws from end k (omega arith) p) in
-    let once : total m 0 (from + (1024 - from)) ≡ total m 0 from + total m from (1024 - from) = total_add m 0 from (1024 - from) ∙ ap (λ k. total m 0 from + total m k (1024 - from)) (zero-add from) in
-    let twice : total m from ((end - from) + (1024 - end)) ≡ total m from (end - from) + total m end (1024 - end) = total_add m from (end - from) (1024 - end) ∙ ap (λ k. total m from (end - from) + total m k (1024 - end)) stop in
-    ap (total m 0) (sym first) ∙ once ∙ omega (arith, front, ap (total m from) second, twice, middle, back)
+    let back : total m end (n - end) ≡ 0 = total_none m end (n - end) (λ k p q. masked_above ws from end k (omega arith) p) in
+    let once : total m 0 (from + (n - from)) ≡ total m 0 from + total m from (n - from) = total_add m 0 from (n - from) ∙ ap (λ k. total m 0 from + total m k (n - from)) (zero-add from) in
+    let twice : total m from ((end - from) + (n - end)) ≡ total m from (end - from) + total m end (n - end) = total_add m from (end - from) (n - end) ∙ ap (λ k. total m from (end - from) + total m k (n - end)) stop in
+    ap (total m 0) (sym first) ∙ once ∙ omega (arith, count_none ws from end from (omega arith), ap (total m from) second, twice, middle, back)
 
 -- ---- where the word of a part has a 1
 pub part_place : (word i t from end : ℕ) → t < 64 → bit_at word t ≡ 1

@@ -1,5 +1,5 @@
--- How a domain is kept: its bounds, and for a hull of at most 1,024 numbers a bitmap.
-use Rattle.std.specs.Prelude.{◌≡◌, Bool, true, List, ℤ, ◌+ℤ◌, ◌≤ℤ◌, ◌<ℤ◌, filter, Option, Some, None}
+-- How a domain is kept: its bounds, its size, and a bitmap where its hull can have gaps and has at most 1,024 numbers.
+use Rattle.std.specs.Prelude.{◌≡◌, ℕ, Bool, true, List, ℤ, pos, ◌+ℤ◌, ◌≤ℤ◌, ◌<ℤ◌, ◌⊎◌, length, filter, Option, Some, None}
 use Rattle.int_domain.specs.declared.bitmap.Bitmap.{Bitmap}
 use Rattle.int_domain.specs.declared.TheConstants.{LARGEST_VALUE, LARGEST_NARROW_HULL}
 use Rattle.int_domain.specs.Values.{range, IsWithin}
@@ -19,10 +19,10 @@ unfoldable pub Reaches : Option Bitmap → ℤ → ℤ → Type 0
 Reaches None low high = Unit {0}
 Reaches (Some bitmap) low high = Covers bitmap low high
 
--- there is a bitmap exactly where the hull has at most 1,024 numbers, and it has a place for each of them
+-- there is a bitmap exactly where the hull has 3 to 1,024 numbers, and it has a place for each of them
 unfoldable pub FitsHull : Option Bitmap → ℤ → ℤ → Type 0
-FitsHull None low high = (low +ℤ LARGEST_NARROW_HULL) ≤ℤ high
-FitsHull (Some bitmap) low high = (high <ℤ (low +ℤ LARGEST_NARROW_HULL)) × Covers bitmap low high
+FitsHull None low high = (high ≤ℤ (low +ℤ pos 1)) ⊎ ((low +ℤ LARGEST_NARROW_HULL) ≤ℤ high)
+FitsHull (Some bitmap) low high = ((low +ℤ pos 1) <ℤ high) × (high <ℤ (low +ℤ LARGEST_NARROW_HULL)) × Covers bitmap low high
 
 -- bounds in order and within the limits, both of them values, with a bitmap where there has to be one
 pub record IsSound (bitmap : Option Bitmap) (low high : ℤ) : Type 0 where
@@ -32,3 +32,8 @@ pub record IsSound (bitmap : Option Bitmap) (low high : ℤ) : Type 0 where
   pub low_kept : keeps bitmap low ≡ true
   pub high_kept : keeps bitmap high ≡ true
   pub hull : FitsHull bitmap low high
+
+-- the size is the number of values
+pub record IsSized (bitmap : Option Bitmap) (low high : ℤ) (size : ℕ) : Type 0 where
+  pub sound : IsSound bitmap low high
+  pub counted : size ≡ length (kept_between bitmap low high)

@@ -107,7 +107,7 @@ pub(crate) fn count_ones_between(words: &[u64; WORDS], from: usize, end: usize) 
     ensures { result ≡ set_between words.now from end }
 {
     let mut count = 0;
-    for index in 0..WORDS {
+    for index in from / 64..(end + 63) / 64 {
         count += u64::from(part(words, index, from, end).count_ones());
     }
     count

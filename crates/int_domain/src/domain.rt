@@ -3,8 +3,8 @@ ghost use Rattle.std.specs.Ordering.{int_eq};
 ghost use Rattle.int_domain.specs.Values.{AreRuns, IsDomain, values_of, is_wide, low_of, high_of};
 ghost use Rattle.int_domain.specs.Narrowing.{Narrows, DropsValue};
 
-use crate::bitmap::{Bitmap, unmark};
-use crate::kept::{bitmap_of, count_kept, first_kept, fitted, is_kept, last_kept};
+use crate::bitmap::{Bitmap, count_marked, unmark};
+use crate::kept::{bitmap_of, count_kept, first_kept, fit, is_kept, last_kept};
 use crate::narrow::Narrow;
 use std::marker::Model;
 
@@ -16,19 +16,21 @@ use std::marker::Model;
 pub struct Domain {
     low: i64,
     high: i64,
-    /// Which numbers from `low` to `high` are values; none is kept for a wide hull.
+    /// How many values there are.
+    size: u64,
+    /// Which numbers from `low` to `high` are values; none is kept for a wide hull, nor for one without room for a gap.
     bitmap: Option<Bitmap>,
 }
 
 impl Model for Domain {
     ghost use Rattle.std.specs.Prelude.{List, ℤ};
-    ghost use Rattle.int_domain.specs.Kept.{kept_between, IsSound};
+    ghost use Rattle.int_domain.specs.Kept.{kept_between, IsSized};
 
     ghost Value = { List ℤ };
 
     ghost view = { λ d. kept_between d.bitmap d.low d.high };
 
-    ghost invariant = { λ d. IsSound d.bitmap d.low d.high };
+    ghost invariant = { λ d. IsSized d.bitmap d.low d.high d.size };
 }
 
 /// The domain with the values of some runs.
@@ -41,7 +43,13 @@ fn spanning(runs: &[(i64, i64)]) -> Domain
     let low = runs[0].0;
     let high = runs[runs.len() - 1].1;
     let bitmap = bitmap_of(runs, low, high);
-    Domain { low, high, bitmap }
+    let size = count_kept(&bitmap, low, high);
+    Domain {
+        low,
+        high,
+        size,
+        bitmap,
+    }
 }
 
 impl Domain {
@@ -69,6 +77,7 @@ impl Domain {
         Domain {
             low: self.low,
             high: self.high,
+            size: self.size,
             bitmap: self.bitmap,
         }
     }
@@ -103,7 +112,7 @@ impl Domain {
     pub fn size(&self) -> u64
         ensures { result ≡ length self.now }
     {
-        count_kept(&self.bitmap, self.low, self.high)
+        self.size
     }
 
     /// Keeps the values that are at least `low`. `Empty`, where none is, leaves the domain as it was.
@@ -118,8 +127,9 @@ impl Domain {
             return Narrow::Empty;
         }
         let first = first_kept(&self.bitmap, low, self.high);
-        self.bitmap = fitted(self.bitmap, first, self.high);
+        fit(&mut self.bitmap, first, self.high);
         self.low = first;
+        self.size = count_kept(&self.bitmap, first, self.high);
         Narrow::Changed
     }
 
@@ -135,8 +145,9 @@ impl Domain {
             return Narrow::Empty;
         }
         let last = last_kept(&self.bitmap, self.low, high);
-        self.bitmap = fitted(self.bitmap, self.low, last);
+        fit(&mut self.bitmap, self.low, last);
         self.high = last;
+        self.size = count_kept(&self.bitmap, self.low, last);
         Narrow::Changed
     }
 
@@ -151,9 +162,10 @@ impl Domain {
         if self.low == self.high {
             return Narrow::Same;
         }
-        self.bitmap = fitted(self.bitmap, value, value);
+        self.bitmap = None;
         self.low = value;
         self.high = value;
+        self.size = 1;
         Narrow::Changed
     }
 
@@ -177,6 +189,7 @@ impl Domain {
         }
         if let Some(bitmap) = &mut self.bitmap {
             unmark(bitmap, value);
+            self.size = count_marked(bitmap, self.low, self.high);
             return Narrow::Changed;
         }
         Narrow::Same

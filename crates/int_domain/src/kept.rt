@@ -79,23 +79,29 @@ fn numbers_between(low: i64, high: i64) -> u64
     (high - low + 1) as u64
 }
 
-/// The same values in `low..=high`, with a bitmap where that hull has at most 1,024 numbers.
+/// Leaves the values in `low..=high` as they are, with a bitmap only where that hull has 3 to 1,024 numbers.
 #[tactic(auto, unfolding(crate::specs::Kept::keeps, crate::specs::Kept::Reaches, crate::specs::Kept::FitsHull))]
-pub(crate) fn fitted(bitmap: Option<Bitmap>, low: i64, high: i64) -> Option<Bitmap>
+pub(crate) fn fit(bitmap: &mut Option<Bitmap>, low: i64, high: i64)
     requires ordered { low ≤ℤ high }
     requires low_within { IsWithin LARGEST_VALUE low }
     requires high_within { IsWithin LARGEST_VALUE high }
-    requires reached { Reaches bitmap low high }
-    ensures hull { FitsHull result low high }
-    ensures same { (v : ℤ) → low ≤ℤ v → v ≤ℤ high → keeps result v ≡ keeps bitmap v }
+    requires reached { Reaches bitmap.old low high }
+    requires low_kept { keeps bitmap.old low ≡ true }
+    requires high_kept { keeps bitmap.old high ≡ true }
+    ensures hull { FitsHull bitmap.new low high }
+    ensures same { (v : ℤ) → low ≤ℤ v → v ≤ℤ high → keeps bitmap.new v ≡ keeps bitmap.old v }
 {
-    match bitmap {
-        None if high - low < LARGEST_NARROW_HULL => Some(all_marked(low)),
-        kept => kept,
+    if high - low < 2 {
+        *bitmap = None;
+        return;
+    }
+    if bitmap.is_none() && high - low < LARGEST_NARROW_HULL {
+        *bitmap = Some(all_marked(low));
     }
 }
 
-/// The bitmap of a domain that has the values of the runs in `low..=high`: none where that hull has more than 1,024 numbers.
+/// The bitmap of a domain that has the values of the runs in `low..=high`: none where that hull has fewer than 3 or more
+/// than 1,024 numbers.
 #[tactic(auto, unfolding(crate::specs::Kept::FitsHull))]
 pub(crate) fn bitmap_of(runs: &[(i64, i64)], low: i64, high: i64) -> Option<Bitmap>
     requires ordered { low ≤ℤ high }
@@ -105,7 +111,7 @@ pub(crate) fn bitmap_of(runs: &[(i64, i64)], low: i64, high: i64) -> Option<Bitm
     ensures hull { FitsHull result low high }
     ensures marked { IfSome result (λ b. (v : ℤ) → low ≤ℤ v → v ≤ℤ high → marks b v ≡ is_in_runs runs.now v) }
 {
-    if high - low < LARGEST_NARROW_HULL {
+    if 2 <= high - low && high - low < LARGEST_NARROW_HULL {
         Some(mark_runs(low, runs))
     } else {
         None

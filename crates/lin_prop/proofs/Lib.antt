@@ -1,4 +1,3 @@
-pub mod Bounded
 pub mod Quotients
 pub mod Scaling
 pub mod Capping

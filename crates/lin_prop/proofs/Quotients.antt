@@ -1,8 +1,8 @@
 -- How often a number goes into another.
-use Rattle.std.proofs.Common.{◌≡◌, ◌≢◌, ℕ, zero, suc, ◌*◌, ◌<◌, ℤ, pos, negsuc, ◌+ℤ◌, ◌-ℤ◌, ◌*ℤ◌, ◌≤ℤ◌, ◌<ℤ◌, refl, sym, ap, ◌∙◌, subst, arith}
+use Rattle.std.proofs.Common.{◌≡◌, ◌≢◌, ℕ, zero, suc, ◌*◌, ◌<◌, ◌≤◌, ℤ, pos, negsuc, ◌+ℤ◌, ◌-ℤ◌, ◌*ℤ◌, ◌≤ℤ◌, ◌<ℤ◌, refl, sym, ap, ◌∙◌, subst, arith}
 use Rattle.std.specs.Prelude.{int_div, int_rem, unsigned_abs}
 use Rattle.std.proofs.lemmas.Int.{ints, quot-rem, rem_below, unsigned_abs-mul}
-use Rattle.std.proofs.Math.Nat.{div-add-mod', mod-lt, mul_comm}
+use Rattle.std.proofs.Math.Nat.{div-add-mod', mod-lt, mul_comm, mul-le-mul}
 use Rattle.std.proofs.Math.IntN.{*ℤ_comm}
 use Rattle.fzn_model.specs.Limits.{IsValue}
 use Rattle.lin_prop.specs.Different.{Excludes}
@@ -58,3 +58,11 @@ excluded_range f a some far v value e = far (subst IsValue (sym (exact f v a som
 pub excluded_product : (f a q : ℤ) → f ≢ pos 0 → q ≡ int_div a f → (q *ℤ f ≡ a → ⊥) → Excludes f a
 unfolding Excludes
 excluded_product f a q some is differs v value e = differs (ap (λ x. x *ℤ f) (is ∙ exact f v a some e) ∙ *ℤ_comm v f ∙ e)
+
+-- a product of a coefficient and a value isn't large
+pub excluded_far : (f a : ℤ) → IsValue f → 1000000 * 1000000 < unsigned_abs a → Excludes f a
+unfolding Excludes
+excluded_far f a factor far v value e =
+    let size : unsigned_abs a ≡ unsigned_abs f * unsigned_abs v = ap (λ x. unsigned_abs x) (sym e) ∙ unsigned_abs-mul f v in
+    let most : unsigned_abs f * unsigned_abs v ≤ 1000000 * 1000000 = mul-le-mul factor value in
+    omega (arith, size, most, far)

@@ -1,5 +1,5 @@
 -- From sums to linear constraints.
-use Rattle.std.proofs.Common.{◌≡◌, List, length, map, ℤ, neg_ℤ, ◌≤ℤ◌, sym, ◌∙◌, arith, subst}
+use Rattle.std.proofs.Common.{◌≡◌, List, length, map, ℤ, pos, neg_ℤ, ◌+ℤ◌, ◌≤ℤ◌, refl, sym, ap, ◌∙◌, arith, subst}
 use Rattle.std.specs.Prelude.{All, true, false}
 use Rattle.std.proofs.lemmas.Int.{ints}
 use Rattle.std.proofs.lemmas.List.{length-map, get_or-map}
@@ -11,15 +11,16 @@ use Rattle.fzn_model.specs.Boxes.{IsBox, InBox}
 use Rattle.fzn_model.specs.Bounds.{IsFixed, sum_low}
 use Rattle.fzn_model.proofs.LinearBounds.{sum_fixed, bounds_fixed}
 use Rattle.dom_store.specs.Stores.{Stored}
-use Rattle.dom_store.specs.Steps.{Step}
-use Rattle.dom_store.specs.Strength.{SumIsFixed, IsChecked, IsOwed}
+use Rattle.dom_store.specs.Steps.{Step, EachTo}
+use Rattle.dom_store.specs.Strength.{SumIsFixed, IsChecked, IsOwed, ConIsOwed}
 use Rattle.dom_store.specs.declared.pass.Passed.{Passed}
 use Rattle.dom_store.specs.declared.pass.Passed.TheVariants as passed
 use Rattle.dom_store.proofs.Stepping.{step_for, step_as, step_both, step_end}
 use Rattle.lin_prop.specs.Signed.{signed_all}
-use Rattle.lin_prop.specs.Capped.{SumIsAtMost, IsLow}
+use Rattle.lin_prop.specs.Capped.{SumIsAtMost, IsLow, RisesBoth, SumIsBoth}
 use Rattle.lin_prop.specs.Different.{Differs, IsApart}
-use Rattle.lin_prop.specs.Kinds.{relation, ConIsOwed}
+use Rattle.lin_prop.specs.Kinds.{relation}
+use Rattle.lin_prop.proofs.Capping.{low_from}
 use Rattle.lin_prop.proofs.Negating.{same_all, sum_negated, low_negated, raised_of}
 
 at_most : (ts : List (ℤ × Term)) (r : ℤ) (θ : List ℤ) → lin_sum ts θ ≤ℤ r → SumIsAtMost (signed_all false ts) r θ
@@ -95,6 +96,35 @@ equal_step ts r s old mid new result is limits first second =
     step_as (λ box. IsLow ts r box × IsLow (signed_all true ts) (neg_ℤ r) box) (ConIsOwed (relation Eq ts r)) (Holds (relation Eq ts r)) old new result
     (λ same low. equal_owed new.box ts r second.well_formed (subst (λ b. SumInLimits (length b) ts) (sym same) limits) low.0 low.1)
     both
+
+-- where the sum is low one way from the start, and made low the other way
+pub equal_up : (ts : List (ℤ × Term)) (r s : ℤ) (old new : Stored) (result : Passed) → s ≡ neg_ℤ r → SumInLimits (length old.box) ts → IsLow (signed_all true ts) s old.box → Step (IsLow (signed_all false ts) r) (SumIsAtMost (signed_all false ts) r) old new result → Step (ConIsOwed (relation Eq ts r)) (Holds (relation Eq ts r)) old new result
+equal_up ts r s old new result is limits down step =
+    step_as (IsLow ts r) (ConIsOwed (relation Eq ts r)) (Holds (relation Eq ts r)) old new result
+    (λ same low. equal_owed new.box ts r step.well_formed (subst (λ b. SumInLimits (length b) ts) (sym same) limits) low (subst (IsLow (signed_all true ts) (neg_ℤ r)) (sym same) (subst (λ z. IsLow (signed_all true ts) z old.box) is down)))
+    (equal_first ts r old new result step)
+
+-- where each term rises so little, both ways
+both_means : (ts : List (ℤ × Term)) (r : ℤ) (θ : List ℤ) → Holds (relation Eq ts r) θ → SumIsBoth ts r θ
+both_means ts r θ e = record { most = at_most ts r θ (omega (arith, ints, e)); least = negative_at_most ts r (neg_ℤ r) θ refl (omega (arith, ints, e)) }
+
+pub equal_both : (ts : List (ℤ × Term)) (r up down : ℤ) (old new : Stored) → SumInLimits (length old.box) ts → pos 0 ≤ℤ up → pos 0 ≤ℤ down → (up +ℤ sum_low old.box (signed_all false ts)) ≡ r → (down +ℤ sum_low old.box (signed_all true ts)) ≡ neg_ℤ r → Step (EachTo (RisesBoth up down) ts (length ts)) (SumIsBoth ts r) old new passed.Done → Step (ConIsOwed (relation Eq ts r)) (Holds (relation Eq ts r)) old new passed.Done
+unfolding EachTo
+equal_both ts r up down old new limits some other above below step =
+    step_for (EachTo (RisesBoth up down) ts (length ts)) (ConIsOwed (relation Eq ts r)) (SumIsBoth ts r) (Holds (relation Eq ts r)) old new passed.Done
+    (λ same each. equal_owed new.box ts r step.well_formed (subst (λ b. SumInLimits (length b) ts) (sym same) limits)
+    (low_at new.box ts r (low_from false ts r up new.box some (ap (λ b. up +ℤ sum_low b (signed_all false ts)) same ∙ above) (λ k d h. (each k d h).above)))
+    (low_from true ts (neg_ℤ r) down new.box other (ap (λ b. down +ℤ sum_low b (signed_all true ts)) same ∙ below) (λ k d h. (each k d h).below)))
+    (λ θ lies e. both_means ts r θ e)
+    step
+
+pub both_none : (ts : List (ℤ × Term)) (r : ℤ) (P : List (List ℤ) → Type 0) (old new : Stored) → Step P (SumIsBoth ts r) old new passed.Empty → Step (ConIsOwed (relation Eq ts r)) (Holds (relation Eq ts r)) old new passed.Empty
+both_none ts r P old new step =
+    step_end P (ConIsOwed (relation Eq ts r)) (Holds (relation Eq ts r)) old new
+    (step_for P P (SumIsBoth ts r) (Holds (relation Eq ts r)) old new passed.Empty (λ same p. p) (λ θ lies e. both_means ts r θ e) step)
+
+pub equal_over : (ts : List (ℤ × Term)) (r s : ℤ) (old new : Stored) → s ≡ neg_ℤ r → Step (IsLow (signed_all true ts) s) (SumIsAtMost (signed_all true ts) s) old new passed.Empty → Step (ConIsOwed (relation Eq ts r)) (Holds (relation Eq ts r)) old new passed.Empty
+equal_over ts r s old new is step = step_end (IsLow (signed_all true ts) (neg_ℤ r)) (ConIsOwed (relation Eq ts r)) (Holds (relation Eq ts r)) old new (equal_second ts r s old new passed.Empty is step)
 
 -- ---- different from
 different_owed : (box : List (List ℤ)) (ts : List (ℤ × Term)) (r : ℤ) → IsBox box → SumInLimits (length box) ts → IsApart ts r box → IsOwed box (relation Ne ts r)

@@ -1,5 +1,5 @@
 -- One term of a sum, narrowed by steps from its bound.
-use Rattle.std.proofs.Common.{◌≡◌, ℕ, suc, ◌+◌, ◌*◌, List, length, ℤ, pos, negsuc, neg_ℤ, ◌+ℤ◌, ◌-ℤ◌, ◌*ℤ◌, ◌≤ℤ◌, ◌<ℤ◌, refl, sym, ap, ◌∙◌, arith, subst}
+use Rattle.std.proofs.Common.{◌≡◌, ℕ, zero, suc, ◌+◌, ◌*◌, List, length, ℤ, pos, negsuc, neg_ℤ, ◌+ℤ◌, ◌-ℤ◌, ◌*ℤ◌, ◌≤ℤ◌, ◌<ℤ◌, refl, sym, ◌∙◌, arith, subst}
 use Rattle.std.specs.Prelude.{unsigned_abs, Bool, true, false}
 use Rattle.std.proofs.lemmas.Int.{ints, by_lt_z}
 use Rattle.std.proofs.Math.IntN.{zero-*ℤ}
@@ -17,7 +17,8 @@ use Rattle.dom_store.specs.declared.pass.Passed.{Passed}
 use Rattle.dom_store.specs.declared.pass.Passed.TheVariants as passed
 use Rattle.dom_store.proofs.Stepping.{narrows_idle, narrows_for}
 use Rattle.lin_prop.specs.Signed.{signed}
-use Rattle.lin_prop.specs.Capped.{ScaledIsAtMost, RisesWithin}
+use Rattle.dom_store.specs.Sums.{RisesWithin}
+use Rattle.lin_prop.specs.Capped.{ScaledIsAtMost}
 
 -- more than any domain is wide
 abbrev pub wide : ℤ
@@ -143,28 +144,34 @@ signed_below old new true t size steps slack result well_formed inside down is f
 signed_below old new false t size steps slack result well_formed inside down is fit narrows =
     narrows_below old new (signed false t) steps slack result well_formed inside down (subst (λ x. Fit slack x steps) (is ∙ size_down false t down) fit) narrows
 
--- a coefficient of 0 gives 0
-nothing : (f z : ℤ) → f ≡ pos 0 → f *ℤ z ≡ pos 0
-nothing f z e = ap (λ x. x *ℤ z) e ∙ zero-*ℤ z
+-- where the bounds are near enough, the term rises within the slack
+self_above : (low high : ℤ) → high ≤ℤ (low +ℤ (high -ℤ low))
+self_above low high = omega (arith, ints)
 
-zero_signed : (on : Bool) (t : ℤ × Term) → pos 0 ≡ pos (unsigned_abs t.0) → (signed on t).0 ≡ pos 0
-zero_signed false (pos n, t) e = omega (arith, ints, e)
-zero_signed false (negsuc n, t) e = absurd (omega (arith, ints, e))
-zero_signed true (pos n, t) e = omega (arith, ints, e)
-zero_signed true (negsuc n, t) e = absurd (omega (arith, ints, e))
+self_below : (low high : ℤ) → (high -ℤ (high -ℤ low)) ≤ℤ low
+self_below low high = omega (arith, ints)
 
-zero_rises : (box : List (List ℤ)) (t : ℤ × Term) (slack : ℤ) → IsBox box → TermIn (length box) t.1 → pos 0 ≤ℤ slack → t.0 ≡ pos 0 → RisesWithin slack t box
-unfolding RisesWithin
-zero_rises box t slack well_formed inside h zero_is =
-    let low = low_is box t well_formed inside (omega (arith, ints, zero_is)) in
-    let high = high_up t.0 _ _ (omega (arith, ints, zero_is)) (low_to_high box t.1 well_formed inside) in
-    let a : t.0 *ℤ term_low box t.1 ≡ pos 0 = nothing _ _ zero_is in
-    let b : t.0 *ℤ term_high box t.1 ≡ pos 0 = nothing _ _ zero_is in
-    omega (arith, ints, low, high, a, b, h)
+covered_by : (box : List (List ℤ)) (on : Bool) (t : ℤ × Term) (slack : ℤ) → IsBox box → TermIn (length box) (signed on t).1 → (pos (unsigned_abs t.0) *ℤ (term_high box (signed on t).1 -ℤ term_low box (signed on t).1)) ≤ℤ slack → RisesWithin slack (signed on t) box
+covered_by box on t slack well_formed inside fits =
+    by_lt_z (signed on t).0 (pos 0)
+    (λ down. rises_below box (signed on t) (term_high box (signed on t).1 -ℤ term_low box (signed on t).1) slack well_formed inside down
+    (subst (λ x. (x *ℤ (term_high box (signed on t).1 -ℤ term_low box (signed on t).1)) ≤ℤ slack) (size_down on t down) fits)
+    (self_below _ _))
+    (λ up. rises_above box (signed on t) (term_high box (signed on t).1 -ℤ term_low box (signed on t).1) slack well_formed inside up
+    (subst (λ x. (x *ℤ (term_high box (signed on t).1 -ℤ term_low box (signed on t).1)) ≤ℤ slack) (size_up on t up) fits)
+    (self_above _ _))
 
-pub signed_idle : (on : Bool) (t : ℤ × Term) (slack : ℤ) (s : Stored) → IsBox s.box → TermIn (length s.box) t.1 → pos 0 ≤ℤ slack → pos 0 ≡ pos (unsigned_abs t.0) → NarrowsTerm (ScaledIsAtMost (signed on t) (slack +ℤ scaled_low s.box (signed on t))) (RisesWithin slack (signed on t)) t.1 s s passed.Done
-signed_idle true t slack s well_formed inside h e = narrows_idle _ _ t.1 s well_formed (zero_rises s.box (signed true t) slack well_formed inside h (zero_signed true t e))
-signed_idle false t slack s well_formed inside h e = narrows_idle _ _ t.1 s well_formed (zero_rises s.box (signed false t) slack well_formed inside h (zero_signed false t e))
+-- nothing is cut then
+pub signed_covered : (on : Bool) (t : ℤ × Term) (slack low high : ℤ) (s : Stored) → IsBox s.box → TermIn (length s.box) t.1 → low ≡ term_low s.box t.1 → high ≡ term_high s.box t.1 → (pos (unsigned_abs t.0) *ℤ (high -ℤ low)) ≤ℤ slack → NarrowsTerm (ScaledIsAtMost (signed on t) (slack +ℤ scaled_low s.box (signed on t))) (RisesWithin slack (signed on t)) t.1 s s passed.Done
+signed_covered true t slack low high s well_formed inside a b fits =
+    narrows_idle _ _ t.1 s well_formed (covered_by s.box true t slack well_formed inside (rw (a, b) at fits))
+signed_covered false t slack low high s well_formed inside a b fits =
+    narrows_idle _ _ t.1 s well_formed (covered_by s.box false t slack well_formed inside (rw (a, b) at fits))
+
+-- a coefficient of 0 rises by nothing
+pub some_size : (n : ℕ) (z slack : ℤ) → pos 0 ≤ℤ slack → slack <ℤ (pos n *ℤ z) → pos 0 <ℤ pos n
+some_size zero z slack h over = let none : pos 0 *ℤ z ≡ pos 0 = zero-*ℤ z in absurd (omega (arith, ints, h, over, none))
+some_size (suc n) z slack h over = omega (arith, ints)
 
 -- the number of a cut, in other words
 pub cut_above_at : (t : Term) (old new : Stored) (result : Passed) (z y : ℤ) → NarrowsTerm (IsAtMost z) (HighIs t z) t old new result → z ≡ y → NarrowsTerm (IsAtMost y) (HighIs t y) t old new result

@@ -5,7 +5,6 @@ use Rattle.fzn_model.specs.declared.lin.Rel.{Rel}
 use Rattle.fzn_model.specs.declared.base.Base.TheVariants as base
 use Rattle.fzn_model.specs.declared.con.Con.{Con}
 use Rattle.fzn_model.specs.declared.con.Con.TheVariants as con
-use Rattle.dom_store.specs.Strength.{IsOwed}
 
 -- a linear relation
 abbrev pub IsLinear : Con → Type 0
@@ -15,7 +14,3 @@ IsLinear c = ⊥
 -- the constraint
 abbrev pub relation : Rel → List (ℤ × Term) → ℤ → Con
 relation rel ts r = con.Base (base.Lin (record { rel = rel; terms = ts; r = r }))
-
--- its strength over a box
-abbrev pub ConIsOwed : Con → List (List ℤ) → Type 0
-ConIsOwed c box = IsOwed box c

@@ -1,40 +1,69 @@
 //! A whole sum that has to be at most a number.
-ghost use Rattle.std.specs.Prelude.{◌≡◌, ◌≤◌, ◌≤ℤ◌, ◌<ℤ◌, ◌+ℤ◌, ◌^◌, pos, length, unsigned_abs, IfSome, IfNone};
+ghost use Rattle.std.specs.Prelude.{◌≤◌, ◌≤ℤ◌, ◌+ℤ◌, ◌-ℤ◌, ◌≡◌, ◌^◌, pos, length, unsigned_abs};
 ghost use Rattle.fzn_model.specs.Limits.{SumInLimits};
 ghost use Rattle.fzn_model.specs.Boxes.{IsBox};
 ghost use Rattle.fzn_model.specs.Bounds.{sum_low};
 ghost use Rattle.dom_store.specs.Steps.{Step};
 ghost use Rattle.lin_prop.specs.Signed.{signed_all};
-ghost use Rattle.lin_prop.specs.Capped.{SumIsAtMost, IsLow};
+ghost use Rattle.dom_store.specs.Sums.{IsReach};
+ghost use Rattle.lin_prop.specs.Capped.{SumIsAtMost, IsLow, low_by, SlackMeans};
 
 use crate::scaled::cap_scaled;
-use crate::sums::sum_low;
-use dom_store::{Passed, Store, recall_domains};
+use dom_store::{Passed, Reach, Store, reach_of, recall_domains};
 use fzn_model::Term;
 
-/// How much the sum may be above its least, where that isn't too much already.
-fn slack_of(store: &Store, negated: bool, terms: &[(i64, Term)], most: &i128) -> Option<i128>
-    requires limits { SumInLimits (length store.now.box) terms.now }
-    requires most { unsigned_abs most.now ≤ 2 ^ 101 }
-    ensures some { IfSome result (λ slack. (pos 0 ≤ℤ slack) × ((slack +ℤ sum_low store.now.box (signed_all negated terms.now)) ≡ most.now)) }
-    ensures none { IfNone result (most.now <ℤ sum_low store.now.box (signed_all negated terms.now)) }
-    ensures well_formed { IsBox store.now.box }
+/// What the slack of a sum, how far its least is below a number, asks for.
+#[derive(Clone, Copy)]
+pub enum Slack {
+    /// The least is above the number.
+    Over,
+    /// No term can rise too far.
+    Ample,
+    /// Each term may rise from its least by at most so much, and some term can rise further.
+    Scarce(i64),
+}
+
+/// How far the least of a sum, or of its negative, is below a number.
+fn left_below(negated: bool, reach: &Reach, most: &i128) -> i128
+    requires { unsigned_abs most.now ≤ 2 ^ 101 }
+    ensures { result ≡ most.now -ℤ low_by negated reach.now }
 {
-    recall_domains(store);
-    let low = sum_low(store, negated, terms);
-    if low > *most {
-        return None;
+    if negated {
+        *most + i128::from(reach.high)
+    } else {
+        *most - i128::from(reach.low)
     }
-    Some(*most - low)
+}
+
+/// What so much slack asks for, where no term rises by more than `rise`.
+fn slack_for(left: &i128, rise: &i64) -> Slack
+    ensures { SlackMeans left.now rise.now result }
+{
+    if *left < 0 {
+        return Slack::Over;
+    }
+    if *left >= i128::from(*rise) {
+        return Slack::Ample;
+    }
+    Slack::Scarce(*left as i64)
+}
+
+/// What the slack of a sum, or of its negative, asks for.
+pub fn slack_of(negated: bool, reach: &Reach, most: &i128) -> Slack
+    requires { unsigned_abs most.now ≤ 2 ^ 101 }
+    ensures { SlackMeans (most.now -ℤ low_by negated reach.now) reach.now.rise result }
+{
+    let left = left_below(negated, reach, most);
+    slack_for(&left, &reach.rise)
 }
 
 /// Narrows each term of a sum whose least is so far below a number.
-fn cap_terms(
+pub fn cap_terms(
     store: &mut Store,
     negated: bool,
     terms: &[(i64, Term)],
     most: &i128,
-    slack: &i128,
+    slack: &i64,
 ) -> Passed
     requires limits { SumInLimits (length store.old.box) terms.now }
     requires slack { pos 0 ≤ℤ slack.now }
@@ -51,15 +80,35 @@ fn cap_terms(
     Passed::Done
 }
 
+/// Narrows each term of a sum, or of its negative, that has to be at most a number, where its reach is known.
+#[tactic(auto, using(crate::proofs::Capping::reach_exceeds, crate::proofs::Capping::reach_ample, crate::proofs::Capping::reach_leaves))]
+pub fn cap_within(
+    store: &mut Store,
+    negated: bool,
+    terms: &[(i64, Term)],
+    reach: &Reach,
+    most: &i128,
+) -> Passed
+    requires limits { SumInLimits (length store.old.box) terms.now }
+    requires most { unsigned_abs most.now ≤ 2 ^ 101 }
+    requires reach { IsReach store.old.box terms.now reach.now }
+    requires well_formed { IsBox store.old.box }
+    ensures { Step (IsLow (signed_all negated terms.now) most.now) (SumIsAtMost (signed_all negated terms.now) most.now) store.old store.new result }
+{
+    match slack_of(negated, reach, most) {
+        Slack::Over => Passed::Empty,
+        Slack::Ample => Passed::Done,
+        Slack::Scarce(slack) => cap_terms(store, negated, terms, most, &slack),
+    }
+}
+
 /// Narrows each term of a sum, or of its negative, that has to be at most a number.
-#[tactic(auto, using(crate::proofs::Capping::sum_exceeds))]
 pub fn cap_sum(store: &mut Store, negated: bool, terms: &[(i64, Term)], most: &i128) -> Passed
     requires limits { SumInLimits (length store.old.box) terms.now }
     requires most { unsigned_abs most.now ≤ 2 ^ 101 }
     ensures { Step (IsLow (signed_all negated terms.now) most.now) (SumIsAtMost (signed_all negated terms.now) most.now) store.old store.new result }
 {
-    match slack_of(store, negated, terms, most) {
-        None => Passed::Empty,
-        Some(slack) => cap_terms(store, negated, terms, most, &slack),
-    }
+    recall_domains(store);
+    let reach = reach_of(store, terms);
+    cap_within(store, negated, terms, &reach, most)
 }

@@ -1,56 +1,39 @@
-ghost use Rattle.std.specs.Prelude.{◌<◌, ◌≤◌, length, IsTrue, IsFalse, IfSome, IfNone};
-ghost use Rattle.fzn_model.specs.Limits.{TermIn, SumInLimits};
-ghost use Rattle.fzn_model.specs.Bounds.{IsFixed};
-ghost use Rattle.lin_prop.specs.Different.{IsOpenAt, OpenMeans, FixedBetween};
+//! The open terms of a sum, and what the others add up to.
+ghost use Rattle.std.specs.Prelude.{◌≡◌, ◌<◌, ◌≤◌, ◌*◌, ◌+ℤ◌, length, unsigned_abs};
+ghost use Rattle.fzn_model.specs.Values.{largest};
+ghost use Rattle.fzn_model.specs.Limits.{SumInLimits};
+ghost use Rattle.lin_prop.specs.Different.{IsStretch};
 
-use dom_store::{Store, greatest, least};
+use dom_store::{Store, greatest, least, product};
 use fzn_model::Term;
 
-/// Which terms of a sum are open.
-#[derive(Clone, Copy, Debug, PartialEq, Eq)]
-pub enum OpenTerms {
-    None,
-    /// The one in this place.
-    One(usize),
-    /// Two at least.
-    More,
+/// Fixed terms of a sum, one after another, up to an open one or to the end.
+#[derive(Clone, Copy)]
+pub struct Stretch {
+    /// The place of the open term, or the number of all terms.
+    pub end: usize,
+    /// What the fixed ones add up to.
+    pub sum: i64,
 }
 
-fn is_open(store: &Store, term: Term) -> bool
-    requires { TermIn (length store.now.box) term }
-    ensures open { IsTrue result → IsFixed store.now.box term → ⊥ }
-    ensures fixed { IsFalse result → IsFixed store.now.box term }
-{
-    least(store, term) != greatest(store, term)
-}
-
-/// The first place from one on that has an open term.
+/// The fixed terms from a place on.
 #[tactic(auto, using(crate::proofs::Opening::between_none, crate::proofs::Opening::between_more, crate::proofs::Opening::open_here))]
-fn first_open(store: &Store, terms: &[(i64, Term)], from: usize) -> Option<usize>
+pub fn stretch_from(store: &Store, terms: &[(i64, Term)], from: usize) -> Stretch
     requires limits { SumInLimits (length store.now.box) terms.now }
     requires from { from ≤ length terms.now }
-    ensures some { IfSome result (λ i. (from ≤ i) × (i < length terms.now) × IsOpenAt store.now.box terms.now i × FixedBetween store.now.box terms.now from i) }
-    ensures none { IfNone result (FixedBetween store.now.box terms.now from (length terms.now)) }
+    ensures stretch { IsStretch store.now.box terms.now from result }
+    ensures small { unsigned_abs result.sum ≤ largest * largest * length terms.now }
 {
+    let mut sum: i64 = 0;
     for i in from..terms.len() {
-        if is_open(store, terms[i].1) {
-            return Some(i);
+        let low = least(store, terms[i].1);
+        if low != greatest(store, terms[i].1) {
+            return Stretch { end: i, sum };
         }
+        sum += product(&terms[i], low);
     }
-    None
-}
-
-/// Which terms of a sum are open.
-#[tactic(auto, using(crate::proofs::Opening::none_open, crate::proofs::Opening::one_open, crate::proofs::Opening::two_open))]
-pub fn which_open(store: &Store, terms: &[(i64, Term)]) -> OpenTerms
-    requires { SumInLimits (length store.now.box) terms.now }
-    ensures { OpenMeans store.now.box terms.now result }
-{
-    let Some(first) = first_open(store, terms, 0) else {
-        return OpenTerms::None;
-    };
-    match first_open(store, terms, first + 1) {
-        None => OpenTerms::One(first),
-        Some(_) => OpenTerms::More,
+    Stretch {
+        end: terms.len(),
+        sum,
     }
 }

@@ -1,5 +1,6 @@
 -- An engine can hold each constraint of a model.
-use Rattle.std.proofs.Common.{ℕ, length, get_or}
+use Rattle.std.proofs.Common.{◌≡◌, ◌≤◌, ℕ, Bool, false, List, length, get_or, replicate, sym, ap, subst, ◌∙◌}
+use Rattle.std.proofs.lemmas.List.{length-replicate}
 use Rattle.std.specs.Prelude.{All}
 use Rattle.fzn_model.specs.declared.base.Base.{Base}
 use Rattle.fzn_model.specs.declared.base.Base.TheVariants as base
@@ -8,6 +9,9 @@ use Rattle.fzn_model.specs.declared.con.Con.TheVariants as con
 use Rattle.fzn_model.specs.Parts.{Parts}
 use Rattle.fzn_model.specs.Limits.{BaseInLimits, ConInLimits, of_model, IsModel}
 use Rattle.prop_engine.specs.Plans.{CanTurn, CanHold}
+use Rattle.prop_engine.specs.declared.readers.Readers.{Readers}
+use Rattle.prop_engine.specs.Readers.{AreRead}
+use Rattle.prop_engine.specs.Queues.{IsEngine}
 
 turns : (n : ℕ) (b : Base) → BaseInLimits of_model n b → CanTurn b
 turns n (base.Lin l) kept = (kept.sum.factors, kept.constant)
@@ -30,3 +34,11 @@ holds n (con.Table xs rows) kept = tt
 
 pub model_held : (m : Parts) → IsModel m → All CanHold m.cons
 model_held m model k d h = holds (length m.doms) (get_or m.cons k d) (model.cons k d h)
+
+pub engine_made : (cs ds : List Con) (readers : Readers) (waits : List Bool) → All CanHold ds → length ds ≤ 4000000000 → cs ≡ ds → AreRead ds (length ds) readers → waits ≡ replicate (length ds) false → IsEngine cs readers waits
+engine_made cs ds readers waits can few same read is = subst (λ (xs : List Con). IsEngine xs readers waits) (sym same) (record {
+  can_hold = can;
+  read = read;
+  room = ap length is ∙ length-replicate (length ds) false;
+  few = few;
+})

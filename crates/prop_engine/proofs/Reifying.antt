@@ -1,5 +1,5 @@
 -- A run for a reified base: its own propagator's, and then that of its side.
-use Rattle.std.proofs.Common.{◌≡◌, List, length, ℤ, refl, sym, ◌∙◌, arith, subst}
+use Rattle.std.proofs.Common.{◌≡◌, ◌<◌, ◌≤◌, List, length, ℤ, refl, sym, ◌∙◌, arith, subst}
 use Rattle.std.specs.Prelude.{Bool, true, false, not, IfOk, Result, Ok, Err}
 use Rattle.std.proofs.lemmas.Int.{ints}
 use Rattle.fzn_model.specs.declared.term.Term.{Term}
@@ -15,23 +15,23 @@ use Rattle.fzn_model.specs.Limits.{TermIn}
 use Rattle.fzn_model.specs.Boxes.{IsBox, InBox}
 use Rattle.dom_store.specs.declared.propagator.Ran.{Ran}
 use Rattle.dom_store.specs.declared.propagator.Ran.TheVariants as ran
-use Rattle.dom_store.specs.Stores.{Stored}
+use Rattle.dom_store.specs.Stores.{Stored, box_size}
 use Rattle.fzn_model.specs.Bounds.{IsAt}
 use Rattle.dom_store.specs.Strength.{IsOwed, IsStrong, BaseIsStrong, DeniedIsStrong}
 use Rattle.dom_store.proofs.Opposites.{opposite_strong}
 use Rattle.fzn_model.specs.Values.{largest}
 use Rattle.fzn_model.specs.Booleans.{FitsBox}
-use Rattle.dom_store.specs.Narrowing.{Prunes}
-use Rattle.dom_store.specs.Propagation.{RanMeans}
+use Rattle.dom_store.specs.Narrowing.{Prunes, HasNone}
+use Rattle.dom_store.specs.Propagation.{RanMeans, FallsFar}
 use Rattle.fzn_model.proofs.Terms.{at_val}
-use Rattle.dom_store.proofs.Laws.{prunes_within, prunes_refl, prunes_trans, prunes_still, fits_pruned, none_before, smaller}
+use Rattle.dom_store.proofs.Laws.{prunes_within, prunes_refl, prunes_trans, prunes_still, fits_pruned, none_before, smaller, same_size}
 use Rattle.prop_engine.specs.declared.sides.Sides.{Sides}
 use Rattle.prop_engine.specs.declared.sides.Sides.TheVariants as sides
 use Rattle.prop_engine.specs.declared.sides.Side.{Side}
 use Rattle.prop_engine.specs.declared.sides.Side.TheVariants as side
 use Rattle.prop_engine.specs.Plans.{CanHold}
 use Rattle.prop_engine.specs.Kinds.{IsWhole}
-use Rattle.prop_engine.specs.Fixing.{WholeMeans}
+use Rattle.prop_engine.specs.Fixing.{PartsMean, WholeMeans}
 use Rattle.prop_engine.specs.Reified.{Belongs, IsSide, SidesFit, SidePrunes, SideMeans}
 
 -- ---- the kinds whose propagator owes the whole strength
@@ -50,13 +50,13 @@ owed_strong box (con.CumulUsed tasks used b) whole owed = record { kind = owed.k
 owed_strong box (con.Table xs rows) whole owed = record { kind = owed.kind; checked = owed.checked }
 
 means_one : (c : Con) (old new : List (List ℤ)) (answer : Ran) → IsWhole c → RanMeans c old new answer → WholeMeans c old new answer
-means_one c old new ran.Kept whole means = λ e. owed_strong new c whole means
+means_one c old new ran.Kept whole means = owed_strong new c whole means
 means_one c old new ran.Empty whole means = means
 means_one c old new ran.EarlyStop whole means = means
 
-pub means_settles : {E : Type 0} (c : Con) (old new : List (List ℤ)) (result : Result Ran E) → IsWhole c → IfOk result (RanMeans c old new) → IfOk result (WholeMeans c old new)
-means_settles c old new (Ok answer) whole means = means_one c old new answer whole means
-means_settles c old new (Err e) whole means = tt
+pub means_whole : {E : Type 0} (c : Con) (old new : List (List ℤ)) (result : Result Ran E) → IsWhole c → IfOk result (RanMeans c old new) → IfOk result (WholeMeans c old new)
+means_whole c old new (Ok answer) whole means = means_one c old new answer whole means
+means_whole c old new (Err e) whole means = tt
 
 -- ---- what the sides are over
 term_in : (c : Con) (term : Term) (flag : Bool) (held : Sides) (box : List (List ℤ)) → Belongs c term flag held → FitsBox box c → TermIn (length box) term
@@ -114,13 +114,13 @@ prunes_as c d s t follows prunes = prunes_within (Holds d) (Holds c) s t prunes 
 prunes_none : (c : Con) (s t : Stored) → t ≡ s → Prunes (Holds c) s t
 prunes_none c s t e = subst (λ (x : Stored). Prunes (Holds c) s x) (sym e) (prunes_refl (Holds c) s)
 
-means_as : (c d : Con) (old s t : Stored) (answer : Ran) → Follows c d s.box → Prunes (Holds c) old s → RanMeans d s.box t.box answer → (t.box ≡ old.box → IsOwed t.box d → IsStrong t.box c) → WholeMeans c old.box t.box answer
+means_as : (c d : Con) (old s t : Stored) (answer : Ran) → Follows c d s.box → Prunes (Holds c) old s → RanMeans d s.box t.box answer → (t.box ≡ old.box → IsOwed t.box d → IsStrong t.box c) → PartsMean c old.box t.box answer
 means_as c d old s t ran.Kept follows prunes means strong = λ e. strong e means
 means_as c d old s t ran.Empty follows prunes means strong = none_before (Holds c) old.box s.box prunes.loses (λ θ lies holds. means θ lies (follows θ lies holds))
 means_as c d old s t ran.EarlyStop follows prunes means strong = let less = smaller (Holds c) old.box s.box prunes.loses in omega (arith, less, means)
 
-means_none : (c : Con) (old s t : Stored) (answer : Ran) → answer ≡ ran.Kept → (t.box ≡ old.box → IsStrong t.box c) → WholeMeans c old.box t.box answer
-means_none c old s t answer kept strong = subst (WholeMeans c old.box t.box) (sym kept) strong
+means_none : (c : Con) (old s t : Stored) (answer : Ran) → answer ≡ ran.Kept → (t.box ≡ old.box → IsStrong t.box c) → PartsMean c old.box t.box answer
+means_none c old s t answer kept strong = subst (PartsMean c old.box t.box) (sym kept) strong
 
 -- ---- the side that is run
 at_of : (box : List (List ℤ)) (term r : Term) (flag f : Bool) (to : Bool → Bool) → term ≡ r → flag ≡ f → IsAt box term (bit (to flag)) → IsAt box r (bit (to f))
@@ -196,7 +196,7 @@ opposite_done l box done = opposite_strong box l.rel l.terms l.r done.kind
 never_of : (box : List (List ℤ)) (term r : Term) (flag f : Bool) (to : Bool → Bool) → term ≡ r → flag ≡ f → (IsAt box term (bit (to flag)) → ⊥) → IsAt box r (bit (to f)) → ⊥
 never_of box term r flag f to same also never at = never (at_of box r term f flag to (sym same) (sym also) at)
 
-settles : (c : Con) (term : Term) (flag : Bool) (held : Sides) (which : Side) (old s t : Stored) (answer : Ran) → Belongs c term flag held → FitsBox s.box c → IsBox s.box → IsSide s.box term flag which → Prunes (Holds c) old s → IsOwed s.box c → SidePrunes held which s t → Prunes (Holds c) s t → SideMeans held which s.box t.box answer → WholeMeans c old.box t.box answer
+settles : (c : Con) (term : Term) (flag : Bool) (held : Sides) (which : Side) (old s t : Stored) (answer : Ran) → Belongs c term flag held → FitsBox s.box c → IsBox s.box → IsSide s.box term flag which → Prunes (Holds c) old s → IsOwed s.box c → SidePrunes held which s t → Prunes (Holds c) s t → SideMeans held which s.box t.box answer → PartsMean c old.box t.box answer
 unfolding IsSide SidePrunes SideMeans
 settles (con.Reif b r f) term flag (sides.Linear must denied) side.Open old s t answer belongs fits_box well_formed is prunes owed ran then means =
     means_none (con.Reif b r f) old s t answer means (open_strong b r f old s t prunes then owed (never_of s.box term r flag f (λ x. x) belongs.0 belongs.1 is.0) (never_of s.box term r flag f not belongs.0 belongs.1 is.1))
@@ -228,7 +228,7 @@ settles (con.Reif (base.Lin l) r f) term flag (sides.Clausal must) side.Must old
 settles (con.Reif (base.Lin l) r f) term flag (sides.Clausal must) side.Denied old s t answer belongs fits_box well_formed is prunes owed ran then means = absurd belongs.2
 settles c term flag held which old s t answer belongs fits_box well_formed is prunes owed ran then means = absurd belongs
 
-settled_by : {E : Type 0} (c : Con) (term : Term) (flag : Bool) (held : Sides) (which : Side) (old s t : Stored) (result : Result Ran E) → Belongs c term flag held → FitsBox s.box c → IsBox s.box → IsSide s.box term flag which → Prunes (Holds c) old s → IsOwed s.box c → SidePrunes held which s t → IfOk result (SideMeans held which s.box t.box) → IfOk result (WholeMeans c old.box t.box)
+settled_by : {E : Type 0} (c : Con) (term : Term) (flag : Bool) (held : Sides) (which : Side) (old s t : Stored) (result : Result Ran E) → Belongs c term flag held → FitsBox s.box c → IsBox s.box → IsSide s.box term flag which → Prunes (Holds c) old s → IsOwed s.box c → SidePrunes held which s t → IfOk result (SideMeans held which s.box t.box) → IfOk result (PartsMean c old.box t.box)
 settled_by c term flag held which old s t (Ok answer) belongs fits_box well_formed is prunes owed then means = settles c term flag held which old s t answer belongs fits_box well_formed is prunes owed then (side_prunes c term flag held which s t belongs fits_box well_formed is then) means
 settled_by c term flag held which old s t (Err e) belongs fits_box well_formed is prunes owed then means = tt
 
@@ -242,5 +242,18 @@ sides_after c term flag held r s belongs fits_box prunes able = sides_fit c term
 pub sides_prune : (c : Con) (term : Term) (flag : Bool) (held : Sides) (which : Side) (r s t : Stored) → Belongs c term flag held → FitsBox r.box c → Prunes (Holds c) r s → IsBox s.box → IsSide s.box term flag which → SidePrunes held which s t → Prunes (Holds c) r t
 sides_prune c term flag held which r s t belongs fits_box prunes well_formed is then = prunes_trans (Holds c) r s t prunes (side_prunes c term flag held which s t belongs (fits_pruned c c r s prunes refl fits_box) well_formed is then)
 
-pub sides_settle : {E : Type 0} (c : Con) (term : Term) (flag : Bool) (held : Sides) (which : Side) (r s t : Stored) (result : Result Ran E) → Belongs c term flag held → FitsBox r.box c → Prunes (Holds c) r s → IsBox s.box → IsSide s.box term flag which → IsOwed s.box c → SidePrunes held which s t → IfOk result (SideMeans held which s.box t.box) → IfOk result (WholeMeans c r.box t.box)
+pub sides_settle : {E : Type 0} (c : Con) (term : Term) (flag : Bool) (held : Sides) (which : Side) (r s t : Stored) (result : Result Ran E) → Belongs c term flag held → FitsBox r.box c → Prunes (Holds c) r s → IsBox s.box → IsSide s.box term flag which → IsOwed s.box c → SidePrunes held which s t → IfOk result (SideMeans held which s.box t.box) → IfOk result (PartsMean c r.box t.box)
 sides_settle c term flag held which r s t result belongs fits_box prunes well_formed is owed then means = settled_by c term flag held which r s t result belongs (fits_pruned c c r s prunes refl fits_box) well_formed is prunes owed then means
+
+-- ---- runs of the parts in a row
+pub parts_none : (c : Con) (a b : Stored) → Prunes (Holds c) a b → HasNone (Holds c) b.box → HasNone (Holds c) a.box
+parts_none c a b prunes none = none_before (Holds c) a.box b.box prunes.loses none
+
+pub parts_far : (c : Con) (a b d : Stored) → Prunes (Holds c) a b → FallsFar b.box d.box → FallsFar a.box d.box
+parts_far c a b d prunes far = let less = smaller (Holds c) a.box b.box prunes.loses in omega (arith, less, far)
+
+pub parts_kept : (c : Con) (a b : Stored) → Prunes (Holds c) a b → box_size b.box ≡ box_size a.box → (b.box ≡ a.box → IsStrong b.box c) → IsStrong b.box c
+parts_kept c a b prunes size strong = strong (same_size (Holds c) a.box b.box prunes.loses size)
+
+pub parts_less : (c : Con) (a b : Stored) → Prunes (Holds c) a b → (box_size b.box ≡ box_size a.box → ⊥) → box_size b.box < box_size a.box
+parts_less c a b prunes differs = let most : box_size b.box ≤ box_size a.box = smaller (Holds c) a.box b.box prunes.loses in omega (arith, most)

@@ -3,3 +3,7 @@ pub mod Plans
 pub mod Reified
 pub mod Fixing
 pub mod Kinds
+pub mod Events
+pub mod Flat
+pub mod Readers
+pub mod Queues

@@ -1,15 +1,16 @@
-ghost use Rattle.std.specs.Prelude.{◌≡◌, length, IfOk, All};
-ghost use Rattle.fzn_model.specs.Limits.{GoalInLimits};
-ghost use Rattle.fzn_model.specs.Booleans.{FitsBox};
-ghost use Rattle.dom_store.specs.Narrowing.{Prunes};
-ghost use Rattle.prop_engine.specs.Plans.{Plan, CanHold, IsFor};
-ghost use Rattle.prop_engine.specs.Fixing.{Cheaper, FixedMeans};
+ghost use Rattle.std.specs.Prelude.{◌≡◌, ◌≤◌, length, IfOk, All};
+ghost use Rattle.fzn_model.specs.Limits.{ConInLimits, of_model};
+ghost use Rattle.prop_engine.specs.Plans.{Plan, CanHold, IsFor, IsReady};
+ghost use Rattle.prop_engine.specs.Fixing.{Fixes, FixedMeans};
 
 use crate::any::AnyProp;
 use crate::fixed::Fixed;
-use crate::rounds::round;
-use dom_store::{Ran, Store};
+use crate::rank::queue_of;
+use crate::readers::{Readers, readers_of};
+use crate::work::work;
+use dom_store::Store;
 use fzn_model::{Con, Goal, Model};
+use mark_set::RankedSet;
 use std::alloc::{AllocError, Global};
 
 /// The propagators of a model, which contracts see as its constraints and its goal.
@@ -17,17 +18,21 @@ use std::alloc::{AllocError, Global};
 pub struct Engine {
     propagators: Vec<AnyProp>,
     goal: Goal,
+    /// For each variable the places of the propagators that read it.
+    readers: Readers,
+    /// The propagators that wait for a run, the cheap ones before the dear ones.
+    queue: RankedSet,
 }
 
 impl std::marker::Model for Engine {
-    ghost use Rattle.std.specs.Prelude.{All};
-    ghost use Rattle.prop_engine.specs.Plans.{Plan, CanHold};
+    ghost use Rattle.prop_engine.specs.Plans.{Plan};
+    ghost use Rattle.prop_engine.specs.Queues.{IsEngine};
 
     ghost Value = { Plan };
 
     ghost view = { λ e. record { cons = e.propagators.items; goal = e.goal } };
 
-    ghost invariant = { λ e. All CanHold e.propagators.items };
+    ghost invariant = { λ e. IsEngine e.propagators.items e.readers e.queue };
 }
 
 /// A propagator for each constraint.
@@ -43,62 +48,55 @@ fn propagators_of(alloc: Global, cons: &[Con]) -> Result<Vec<AnyProp>, AllocErro
     Ok(all)
 }
 
-/// How far the domains may fall before a run stops early.
-const FAR: u64 = 100_000;
-
-/// Makes rounds until one of them removes nothing, or the domains have lost 100,000 values.
-#[tactic(auto, using(dom_store::proofs::Laws::prunes_refl, dom_store::proofs::Laws::prunes_trans, crate::proofs::Rounding::fits_fixed, crate::proofs::Rounding::none_at_first, crate::proofs::Rounding::far_at_last, crate::proofs::Rounding::kept_at_last, crate::proofs::Rounding::less))]
-fn rounds(
-    propagators: &mut [AnyProp],
+/// The engine of constraints over so many variables.
+#[tactic(auto, using(crate::proofs::Holding::engine_made))]
+fn engine_of(
+    alloc: Global,
+    cons: &[Con],
+    variables: usize,
     goal: Goal,
-    below: &i64,
-    store: &mut Store,
-) -> Result<Fixed, AllocError>
-    requires fits_box { All (FitsBox store.old.box) propagators.old }
-    requires can_hold { All CanHold propagators.old }
-    requires goal { GoalInLimits (length store.old.box) goal }
-    ensures same { propagators.new ≡ propagators.old }
-    ensures prunes { Prunes (Cheaper (record { cons = propagators.old; goal = goal }) below.now) store.old store.new }
-    ensures means { IfOk result (FixedMeans (record { cons = propagators.old; goal = goal }) below.now store.old.box store.new.box) }
+) -> Result<Engine, AllocError>
+    requires few { length cons.now ≤ 4000000000 }
+    requires can_hold { All CanHold cons.now }
+    requires kept { All (ConInLimits of_model variables) cons.now }
+    ensures { IfOk result (λ e. e ≡ record { cons = cons.now; goal = goal }) }
 {
-    let start = store.total();
-    loop {
-        let before = store.total();
-        match round(propagators, goal, below, store)? {
-            Ran::Kept => {}
-            Ran::Empty => return Ok(Fixed::Empty),
-            Ran::EarlyStop => return Ok(Fixed::EarlyStop),
-        }
-        let now = store.total();
-        if now == before {
-            return Ok(Fixed::Kept);
-        }
-        if start - now >= FAR {
-            return Ok(Fixed::EarlyStop);
-        }
-    }
+    Ok(Engine {
+        propagators: propagators_of(alloc, cons)?,
+        goal,
+        readers: readers_of(alloc, cons, variables)?,
+        queue: queue_of(alloc, cons)?,
+    })
 }
 
 impl Engine {
-    /// The engine of a model.
+    /// The engine of a model. Takes memory for a copy of each constraint, and for each variable a list of the propagators
+    /// that read it.
     #[tactic(auto, using(crate::proofs::Holding::model_held))]
     pub fn new(alloc: Global, model: &Model) -> Result<Engine, AllocError>
         ensures { IfOk result (λ e. e ≡ record { cons = model.now.cons; goal = model.now.goal }) }
     {
-        let _kept = &model.cons;
-        Ok(Engine {
-            propagators: propagators_of(alloc, model.cons.as_slice())?,
-            goal: model.goal,
-        })
+        let variables = model.doms.as_slice().len();
+        engine_of(alloc, model.cons.as_slice(), variables, model.goal)
     }
 
-    /// Narrows a store of the same model, for solutions that cost less than `below`.
+    /// Narrows a store of the same model, for solutions that cost less than `below`. Where it answers `Kept` the store is
+    /// settled, so that the next call runs only the propagators that read a variable which changed since.
     pub fn fix(&mut self, store: &mut Store, below: i64) -> Result<Fixed, AllocError>
-        requires { IsFor store.old.box self.old }
+        requires fits { IsFor store.old.box self.old }
+        requires ready { IsReady store.old self.old }
         ensures same { self.new ≡ self.old }
-        ensures prunes { Prunes (Cheaper self.old below) store.old store.new }
+        ensures fixes { Fixes self.old below store.old store.new }
         ensures means { IfOk result (FixedMeans self.old below store.old.box store.new.box) }
+        ensures ready { IsReady store.new self.old }
     {
-        rounds(self.propagators.as_mut_slice(), self.goal, &below, store)
+        work(
+            self.propagators.as_mut_slice(),
+            &self.readers,
+            &mut self.queue,
+            self.goal,
+            &below,
+            store,
+        )
     }
 }

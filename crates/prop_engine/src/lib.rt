@@ -7,12 +7,18 @@
 //!
 //! What it promises: `fix` removes only values that no solution of the box cheaper than the bound has. At `Kept` each
 //! constraint has its strength and no cost that the goal's domain allows reaches the bound; `Empty` comes only where no
-//! solution of the box is cheaper; `EarlyStop` only where the domains have lost 100,000 values (`specs/Fixing.antt`).
-//! It ends because the number of all values falls from round to round.
+//! solution of the box is cheaper; `EarlyStop` only where the domains have lost 100,000 values (`specs/Fixing.antt`). The
+//! box of each settling that a store keeps has the strength of each constraint (`IsReady` in `specs/Plans.antt`); `fix`
+//! needs this and keeps it. It ends because each run either removes values or leaves one propagator fewer waiting.
 //!
-//! What it costs: a round runs each propagator once; rounds go on until one removes nothing.
+//! What it costs: one run for each propagator that reads a variable which changed since the store was last settled, and one
+//! more each time that such a variable changes in a way that it hears of; where the store wasn't settled, one run for each. A
+//! propagator of a linear relation that is different, of a quotient or of a remainder hears only of variables that are
+//! fixed, and of domains that had more than 1,024 values; each other one hears of every change (`specs/Events.antt`). A
+//! propagator doesn't wait for its own changes. A dear propagator (`rank.rt` says which are) runs only where no cheap one waits.
+//! `fix` stops early only after 64 runs for each propagator and 1,000 more, so only where runs creep.
 //!
-//! What it stands on: dom_store, fzn_model, and a crate for each family of propagators. No other crate names those.
+//! What it stands on: dom_store, fzn_model, mark_set, and a crate for each family of propagators. No other crate names those.
 #![tactic(auto)]
 
 // One propagator of any kind, and those of a reified base.
@@ -20,11 +26,17 @@ mod any;
 mod reified;
 mod sides;
 
-// The goal, and rounds.
+// The goal, which propagators read a variable and what they hear of, those that wait for a run, and the whole.
 mod engine;
+mod event;
 mod fixed;
+mod flat_lists;
 mod goal;
-mod rounds;
+mod queue;
+mod rank;
+mod readers;
+mod run;
+mod work;
 
 pub use engine::Engine;
 pub use fixed::Fixed;

@@ -3,7 +3,7 @@ ghost use Rattle.std.specs.Prelude.{◌≡◌, IfOk};
 ghost use Rattle.fzn_model.specs.Booleans.{FitsBox};
 ghost use Rattle.dom_store.specs.Narrowing.{Prunes};
 ghost use Rattle.prop_engine.specs.Plans.{CanHold};
-ghost use Rattle.prop_engine.specs.Fixing.{WholeMeans};
+ghost use Rattle.prop_engine.specs.Fixing.{PartsMean, WholeMeans};
 ghost use Rattle.prop_engine.specs.Reified.{IsReified, Belongs};
 ghost use Rattle.fzn_model.specs.Meaning.{Holds};
 
@@ -49,7 +49,7 @@ fn run_parts(
     ensures own { own.new ≡ own.old }
     ensures sides { sides.new ≡ sides.old }
     ensures prunes { Prunes (Holds own.old) store.old store.new }
-    ensures means { IfOk result (WholeMeans own.old store.old.box store.new.box) }
+    ensures means { IfOk result (PartsMean own.old store.old.box store.new.box) }
 {
     match own.run(store)? {
         Ran::Kept => {}
@@ -58,6 +58,36 @@ fn run_parts(
     }
     let side = side_of(store, term, flag);
     run_side(sides, side, store)
+}
+
+/// Runs the parts of a reified base until nothing goes.
+#[tactic(auto, using(dom_store::proofs::Laws::fits_pruned, dom_store::proofs::Laws::prunes_refl, dom_store::proofs::Laws::prunes_trans, crate::proofs::Reifying::parts_none, crate::proofs::Reifying::parts_far, crate::proofs::Reifying::parts_kept, crate::proofs::Reifying::parts_less))]
+fn run_on(
+    own: &mut ReifProp,
+    sides: &mut Sides,
+    term: Term,
+    flag: bool,
+    store: &mut Store,
+) -> Result<Ran, AllocError>
+    requires belongs { Belongs own.old term flag sides.old }
+    requires fits_box { FitsBox store.old.box own.old }
+    requires can_hold { CanHold own.old }
+    ensures own { own.new ≡ own.old }
+    ensures sides { sides.new ≡ sides.old }
+    ensures prunes { Prunes (Holds own.old) store.old store.new }
+    ensures means { IfOk result (WholeMeans own.old store.old.box store.new.box) }
+{
+    loop {
+        let before = store.total();
+        match run_parts(own, sides, term, flag, store)? {
+            Ran::Kept => {}
+            Ran::Empty => return Ok(Ran::Empty),
+            Ran::EarlyStop => return Ok(Ran::EarlyStop),
+        }
+        if store.total() == before {
+            return Ok(Ran::Kept);
+        }
+    }
 }
 
 impl Reified {
@@ -86,6 +116,6 @@ impl Reified {
         ensures prunes { Prunes (Holds self.old) store.old store.new }
         ensures means { IfOk result (WholeMeans self.old store.old.box store.new.box) }
     {
-        run_parts(&mut self.own, &mut self.sides, self.term, self.flag, store)
+        run_on(&mut self.own, &mut self.sides, self.term, self.flag, store)
     }
 }

@@ -35,7 +35,7 @@ fn bound_of(model: &Model, below: Option<i64>) -> i64
 }
 
 /// The store of a model, and what fixing it below the bound answers; below the greatest one, where none is said.
-#[tactic(auto, using(prop_engine::proofs::Models::same_model, dom_store::proofs::Made::none_empty))]
+#[tactic(auto, using(prop_engine::proofs::Models::same_model, prop_engine::proofs::Ready::ready_first, dom_store::proofs::Made::none_empty))]
 fn fixed(alloc: Global, model: &Model, below: Option<i64>) -> Result<(Fixed, Store), Fail> {
     let Some(mut store) = Store::new(alloc, model)? else {
         return Err("a domain is empty")?;

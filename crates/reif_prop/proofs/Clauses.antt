@@ -1,6 +1,6 @@
 -- A clause whose literals all have to be false.
-use Rattle.std.proofs.Common.{◌≡◌, ℕ, ◌+◌, ◌<◌, ◌≤◌, List, length, get_or, sym, subst, ap, ◌∙◌, arith, inl, inr}
-use Rattle.std.specs.Prelude.{ℤ, pos}
+use Rattle.std.proofs.Common.{◌≡◌, ℕ, ◌+◌, ◌<◌, ◌≤◌, List, length, get_or, refl, sym, subst, ap, ◌∙◌, arith, inl, inr}
+use Rattle.std.specs.Prelude.{ℤ, pos, ◌+ℤ◌, All}
 use Rattle.std.proofs.lemmas.Int.{ints}
 use Rattle.std.proofs.lemmas.Bool.{cases_lt}
 use Rattle.std.proofs.lemmas.List.{get_or_default}
@@ -20,11 +20,15 @@ use Rattle.fzn_model.specs.Booleans.{IsBoolean}
 use Rattle.dom_store.specs.Strength.{AllFalse}
 use Rattle.fzn_model.proofs.Terms.{val_has}
 use Rattle.reif_prop.specs.Parts.{IsOver}
-use Rattle.dom_store.specs.Steps.{Step}
+use Rattle.dom_store.specs.Steps.{Step, Gives, Is, ValueIs}
 use Rattle.reif_prop.specs.Failing.{Fails}
-use Rattle.dom_store.specs.Steps.{Gives, Is, ValueIs}
 use Rattle.reif_prop.specs.Denying.{AllHave, FirstAre, IsDenied}
 use Rattle.dom_store.proofs.Stepping.{step_idle, step_for, step_end, step_both}
+
+-- a term that has the value alone
+pub at_idle : (t : Term) (v : ℤ) (s : Stored) → IsBox s.box → IsAt s.box t v → Step (ValueIs t v) (Gives (Is v) t) s s passed.Done
+unfolding ValueIs
+at_idle t v s well_formed at = step_idle (ValueIs t v) (Gives (Is v) t) s well_formed at
 
 -- ---- a list of terms that all have a value
 module _ (ts : List Term) (v : ℤ) where
@@ -69,23 +73,25 @@ has_bit box (term.Var k) v bits has = All-contains IsBit (domain_at box k) v bit
 pub val_bit : (box : List (List ℤ)) (t : Term) (θ : List ℤ) → IsBoolean box t → TermIn (length box) t → InBox box θ → IsBit (val t θ)
 val_bit box t θ bit inside lies = has_bit box t (val t θ) bit (val_has box t θ inside lies)
 
+-- the values of Booleans are all v, where none is the other value
+only_other : (v w : ℤ) → (v +ℤ w) ≡ pos 1 → IsBit v → (z : ℤ) → IsBit z → (z ≡ w → ⊥) → z ≡ v
+only_other v w sum bit z bits differs = omega (arith, ints, sum, bit.0, bit.1, bits.0, bits.1, differs)
+
+all_other : (ts : List Term) (v w : ℤ) (box : List (List ℤ)) (θ : List ℤ) → (v +ℤ w) ≡ pos 1 → IsBit v → All (IsBoolean box) ts → All (TermIn (length box)) ts → InBox box θ → (HasValue ts w θ → ⊥) → AllHave ts v θ
+unfolding AllHave HasValue
+all_other ts v w box θ sum bit booleans inside lies none k d h =
+    let t : Term = get_or ts k d in
+    only_other v w sum bit (val t θ) (val_bit box t θ (booleans k d h) (inside k d h) lies) (λ e. none (k, t, h, get_or_default ts k t d h, e))
+
 -- ---- the literals of a clause
 module _ (c : Clause) where
   all_zero : (box : List (List ℤ)) → IsOver box (base.Clause c) → (θ : List ℤ) → InBox box θ → Fails (base.Clause c) θ → AllHave c.pos (pos 0) θ
-  unfolding Fails AllHave HasValue
-  all_zero box over θ lies fails k d h =
-      let t : Term = get_or c.pos k d in
-      let bit = val_bit box t θ (over.booleans.0 k d h) (over.kept.pos.terms k d h) lies in
-      let not_one : val t θ ≡ pos 1 → ⊥ = λ e. fails (inl (k, t, h, get_or_default c.pos k t d h, e)) in
-      omega (arith, ints, bit.0, bit.1, not_one)
+  unfolding Fails
+  all_zero box over θ lies fails = all_other c.pos (pos 0) (pos 1) box θ refl (omega (arith, ints), omega (arith, ints)) over.booleans.0 over.kept.pos.terms lies (λ has. fails (inl has))
 
   all_one : (box : List (List ℤ)) → IsOver box (base.Clause c) → (θ : List ℤ) → InBox box θ → Fails (base.Clause c) θ → AllHave c.neg (pos 1) θ
-  unfolding Fails AllHave HasValue
-  all_one box over θ lies fails k d h =
-      let t : Term = get_or c.neg k d in
-      let bit = val_bit box t θ (over.booleans.1 k d h) (over.kept.neg.terms k d h) lies in
-      let not_zero : val t θ ≡ pos 0 → ⊥ = λ e. fails (inr (k, t, h, get_or_default c.neg k t d h, e)) in
-      omega (arith, ints, bit.0, bit.1, not_zero)
+  unfolding Fails
+  all_one box over θ lies fails = all_other c.neg (pos 1) (pos 0) box θ refl (omega (arith, ints), omega (arith, ints)) over.booleans.1 over.kept.neg.terms lies (λ has. fails (inr has))
 
   pub positive_false : (n : ℕ) (old new : Stored) (result : Passed) → IsOver old.box (base.Clause c) → Step (FirstAre c.pos (pos 0) n) (AllHave c.pos (pos 0)) old new result → Step (FirstAre c.pos (pos 0) n) (Fails (base.Clause c)) old new result
   positive_false n old new result over step = step_for (FirstAre c.pos (pos 0) n) (FirstAre c.pos (pos 0) n) (AllHave c.pos (pos 0)) (Fails (base.Clause c)) old new result (λ same at. at) (all_zero old.box over) step

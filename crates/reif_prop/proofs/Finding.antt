@@ -1,6 +1,6 @@
 -- The values that a term has, against a set.
-use Rattle.std.proofs.Common.{◌≡◌, ℕ, zero, suc, ◌+◌, ◌-◌, ◌<◌, ◌≤◌, ◌⊎◌, ◌↔◌, List, length, get_or, refl, sym, subst, ◌∙◌, arith, below_more, inl, inr}
-use Rattle.std.specs.Prelude.{Bool, true, false, ℤ, pos, ◌+ℤ◌, ◌≤ℤ◌, ◌<ℤ◌, int_lt, All}
+use Rattle.std.proofs.Common.{◌≡◌, ℕ, zero, suc, ◌+◌, ◌-◌, ◌<◌, ◌≤◌, ◌⊎◌, ◌↔◌, List, length, get_or, sym, subst, ◌∙◌, arith, below_more, inl, inr}
+use Rattle.std.specs.Prelude.{ℤ, pos, ◌+ℤ◌, ◌≤ℤ◌, ◌<ℤ◌, All}
 use Rattle.std.specs.Int.{int_min, int_max}
 use Rattle.std.proofs.lemmas.Int.{ints, clamps}
 use Rattle.std.proofs.lemmas.Bool.{cases_lt}
@@ -12,36 +12,23 @@ use Rattle.fzn_model.specs.Boxes.{IsBox}
 use Rattle.fzn_model.specs.Bounds.{term_low, term_high, TermHas}
 use Rattle.fzn_model.proofs.Reaching.{both_rise}
 use Rattle.fzn_model.proofs.Terms.{has_between}
+use Rattle.dom_store.proofs.Comparing.{below_or_from}
 use Rattle.reif_prop.specs.Values.{HasWithin, IsFreeOf, HasNoneBefore, AllInside, AllOutside, run_at, IsPast, IsBefore, HasInGap, GapsAreFree}
-
-pub is_less : (a b : ℤ) → int_lt a b ≡ true → a <ℤ b
-is_less a b is = grind (arith, ints)
-
-pub not_less : (a b : ℤ) → int_lt a b ≡ false → b ≤ℤ a
-not_less a b is = grind (arith, ints)
-
--- which of two numbers is less
-pub order : (a b : ℤ) → (a <ℤ b) ⊎ (b ≤ℤ a)
-order a b = by_test (int_lt a b) refl
-  where
-    by_test : (t : Bool) → int_lt a b ≡ t → (a <ℤ b) ⊎ (b ≤ℤ a)
-    by_test true is = inl (is_less a b is)
-    by_test false is = inr (not_less a b is)
 
 -- ---- the runs of a set
 rises : (runs : List (ℤ × ℤ)) (i j : ℕ) → AreRuns runs → i ≤ j → j < length runs → ((run_at runs i).0 ≤ℤ (run_at runs j).0) × ((run_at runs i).1 ≤ℤ (run_at runs j).1)
 rises runs i j a le h = both_rise runs i j (pos 0, pos 0) a le h
 
 -- a number is in one of the first gaps, in the set, or above the first runs
-located : (set : List (ℤ × ℤ)) (v : ℤ) (n : ℕ) → n ≤ length set → ((k : ℕ) × (k < n) × IsPast set k v × IsBefore set k v) ⊎ (IsIn set v ⊎ IsPast set n v)
+pub located : (set : List (ℤ × ℤ)) (v : ℤ) (n : ℕ) → n ≤ length set → ((k : ℕ) × (k < n) × IsPast set k v × IsBefore set k v) ⊎ (IsIn set v ⊎ IsPast set n v)
 unfolding IsIn IsWithin
 located set v zero h = inr (inr (λ less. absurd (omega arith)))
 located set v (suc n) h = elim (located set v n (omega arith)) [
   | inl (k, less, past, before) ↦ inl (k, omega arith, past, before)
   | inr (inl there) ↦ inr (inl there)
-  | inr (inr past) ↦ elim (order v (run_at set n).0) [
+  | inr (inr past) ↦ elim (below_or_from v (run_at set n).0) [
     | inl below ↦ inl (n, omega arith, past, λ inside. below)
-    | inr from ↦ elim (order (run_at set n).1 v) [
+    | inr from ↦ elim (below_or_from (run_at set n).1 v) [
       | inl beyond ↦ inr (inr (λ less. subst (λ k. (run_at set k).1 <ℤ v) (omega arith) beyond))
       | inr to ↦ inr (inl (n, run_at set n, omega arith, get_or_default set n (run_at set n) (pos 0, pos 0) (omega arith), (from, to)))
     ]
@@ -62,7 +49,7 @@ module _ (box : List (List ℤ)) (x : Term) where
 
   pub none_more : (low v : ℤ) → HasNoneBefore box x low v → (TermHas box x v → ⊥) → HasNoneBefore box x low (v +ℤ pos 1)
   unfolding HasNoneBefore
-  none_more low v before none w from less has = elim (order w v) [
+  none_more low v before none w from less has = elim (below_or_from w v) [
     | inl below ↦ before w from below has
     | inr above ↦ none (subst (TermHas box x) (omega (arith, ints)) has)
   ]

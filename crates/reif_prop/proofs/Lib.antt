@@ -1,6 +1,9 @@
 pub mod Bases
 pub mod Finding
+pub mod Bounding
+pub mod Listing
 pub mod Members
 pub mod Clauses
 pub mod Owing
 pub mod Showing
+pub mod Testing

@@ -1,6 +1,6 @@
 -- A term that has to be outside a set.
 use Rattle.std.proofs.Common.{◌≡◌, ℕ, ◌+◌, ◌<◌, ◌≤◌, List, length, get_or, sym, subst, ap, ◌∙◌, arith, inl, inr}
-use Rattle.std.specs.Prelude.{ℤ, pos, ◌+ℤ◌, ◌-ℤ◌, ◌≤ℤ◌}
+use Rattle.std.specs.Prelude.{ℤ, pos, ◌+ℤ◌, ◌≤ℤ◌}
 use Rattle.std.specs.Int.{int_min, int_max}
 use Rattle.std.proofs.lemmas.Int.{ints, clamps}
 use Rattle.std.proofs.lemmas.Bool.{cases_lt}
@@ -16,43 +16,51 @@ use Rattle.dom_store.specs.declared.pass.Passed.TheVariants as passed
 use Rattle.dom_store.specs.Stores.{Stored}
 use Rattle.fzn_model.specs.Bounds.{term_low, term_high, TermHas, IsWide, IsLookedAt}
 use Rattle.dom_store.specs.Strength.{MemberIsOut}
-use Rattle.fzn_model.proofs.Terms.{val_low, val_high, has_between}
-use Rattle.reif_prop.specs.Parts.{member_of}
-use Rattle.dom_store.specs.Steps.{Step}
+use Rattle.fzn_model.proofs.Terms.{has_between}
+use Rattle.dom_store.specs.Bases.{member_of}
+use Rattle.dom_store.specs.Steps.{Step, NarrowsTerm, Gives, IsNot, IsGone}
+use Rattle.dom_store.specs.declared.extreme.Extreme.{Extreme}
+use Rattle.dom_store.specs.declared.extreme.Extreme.TheVariants as extreme
+use Rattle.dom_store.specs.Extremes.{bound_of, Bounds, BoundsTerm}
+use Rattle.dom_store.proofs.Limiting.{bound_value, values_bound}
 use Rattle.reif_prop.specs.Failing.{Fails}
-use Rattle.dom_store.specs.Steps.{Gives, IsAtLeast, IsAtMost, IsNot, LowIs, HighIs, IsGone}
-use Rattle.reif_prop.specs.Denying.{Misses, LowIsOff, HighIsOff, AreOff, EachIsOff, RunIsOff, FirstRunsAreOff, IsDenied}
-use Rattle.dom_store.proofs.Stepping.{step_idle, step_for, step_end, step_both}
-use Rattle.reif_prop.proofs.Finding.{order}
+use Rattle.reif_prop.specs.Denying.{Misses, BoundIsOff, number_beside, AreOff, EachIsOff, RunIsOff, FirstRunsAreOff, IsDenied}
+use Rattle.dom_store.proofs.Stepping.{narrowed, step_as, step_idle, step_for, step_end, step_both}
+use Rattle.dom_store.proofs.Comparing.{below_or_from}
+
+-- a number that the term can't have
+pub gone_idle : (x : Term) (v : ℤ) (s : Stored) → IsBox s.box → (TermHas s.box x v → ⊥) → Step (IsGone x v) (Gives (IsNot v) x) s s passed.Done
+unfolding IsGone
+gone_idle x v s well_formed none = step_idle (IsGone x v) (Gives (IsNot v) x) s well_formed (λ looked. none looked.has)
 
 module _ (x : Term) (run : ℤ × ℤ) where
-  -- ---- the least value
-  pub low_off : (low : ℤ) (s : Stored) → IsBox s.box → low ≡ term_low s.box x → (IsWithin run low → ⊥) → Step (LowIsOff x run) (Misses x run) s s passed.Done
-  unfolding LowIsOff
-  low_off low s well_formed is off = step_idle (LowIsOff x run) (Misses x run) s well_formed (subst (λ z. IsWithin run z → ⊥) is off)
+  -- ---- a bound
+  beside_off : (e : Extreme) (z : ℤ) → Bounds e (number_beside e run) z → IsWithin run z → ⊥
+  unfolding IsWithin
+  beside_off extreme.Least z beyond within = omega (arith, ints, beyond, within.1)
+  beside_off extreme.Greatest z beyond within = omega (arith, ints, beyond, within.0)
 
-  pub low_past : (low next : ℤ) (old new : Stored) (result : Passed) → IsBox old.box → TermIn (length old.box) x → low ≡ term_low old.box x → IsWithin run low → next ≡ run.1 +ℤ pos 1 → Step (LowIs x next) (Gives (IsAtLeast next) x) old new result → Step (LowIsOff x run) (Misses x run) old new result
-  unfolding IsWithin LowIs Gives LowIsOff Misses
-  low_past low next old new result well_formed inside is within next_is step = step_for (LowIs x next) (LowIsOff x run) (Gives (IsAtLeast next) x) (Misses x run) old new result
-      (λ same at there. omega (arith, ints, next_is, at, there.1))
-      (λ θ lies misses. elim (order run.1 (val x θ)) [
-        | inl above ↦ omega (arith, ints, next_is, above)
-        | inr to ↦ let from = val_low old.box x θ well_formed inside lies in absurd (misses (omega (arith, ints, from, is, within.0), to))
-      ]) step
+  beside_spared : (e : Extreme) (number z : ℤ) → IsWithin run number → Bounds e number z → (IsWithin run z → ⊥) → Bounds e (number_beside e run) z
+  unfolding IsWithin
+  beside_spared extreme.Least number z within bounds misses = elim (below_or_from run.1 z) [
+    | inl above ↦ omega (arith, ints, above)
+    | inr to ↦ absurd (misses (omega (arith, ints, bounds, within.0), to))
+  ]
+  beside_spared extreme.Greatest number z within bounds misses = elim (below_or_from z run.0) [
+    | inl below ↦ omega (arith, ints, below)
+    | inr from ↦ absurd (misses (from, omega (arith, ints, bounds, within.1)))
+  ]
 
-  -- ---- the greatest value
-  pub high_off : (high : ℤ) (s : Stored) → IsBox s.box → high ≡ term_high s.box x → (IsWithin run high → ⊥) → Step (HighIsOff x run) (Misses x run) s s passed.Done
-  unfolding HighIsOff
-  high_off high s well_formed is off = step_idle (HighIsOff x run) (Misses x run) s well_formed (subst (λ z. IsWithin run z → ⊥) is off)
+  pub bound_off : (e : Extreme) (number : ℤ) (s : Stored) → IsBox s.box → number ≡ bound_of e x s.box → (IsWithin run number → ⊥) → Step (BoundIsOff e x run) (Misses x run) s s passed.Done
+  unfolding BoundIsOff
+  bound_off e number s well_formed is off = step_idle (BoundIsOff e x run) (Misses x run) s well_formed (subst (λ z. IsWithin run z → ⊥) is off)
 
-  pub high_before : (high next : ℤ) (old new : Stored) (result : Passed) → IsBox old.box → TermIn (length old.box) x → high ≡ term_high old.box x → IsWithin run high → next ≡ run.0 -ℤ pos 1 → Step (HighIs x next) (Gives (IsAtMost next) x) old new result → Step (HighIsOff x run) (Misses x run) old new result
-  unfolding IsWithin HighIs Gives HighIsOff Misses
-  high_before high next old new result well_formed inside is within next_is step = step_for (HighIs x next) (HighIsOff x run) (Gives (IsAtMost next) x) (Misses x run) old new result
-      (λ same at there. omega (arith, ints, next_is, at, there.0))
-      (λ θ lies misses. elim (order (val x θ) run.0) [
-        | inl below ↦ omega (arith, ints, next_is, below)
-        | inr from ↦ let to = val_high old.box x θ well_formed inside lies in absurd (misses (from, omega (arith, ints, to, is, within.1)))
-      ]) step
+  pub bound_left : (e : Extreme) (number next : ℤ) (old new : Stored) (result : Passed) → IsBox old.box → TermIn (length old.box) x → number ≡ bound_of e x old.box → IsWithin run number → next ≡ number_beside e run → NarrowsTerm (Bounds e next) (BoundsTerm e next x) x old new result → Step (BoundIsOff e x run) (Misses x run) old new result
+  unfolding BoundIsOff Misses
+  bound_left e number next old new result well_formed inside is within next_is narrows = step_as (BoundsTerm e next x) (BoundIsOff e x run) (Misses x run) old new result
+      (λ same at. beside_off e (bound_of e x new.box) (subst (λ z. Bounds e z (bound_of e x new.box)) next_is (values_bound e x next new.box at)))
+      (narrowed (Misses x run) narrows (λ θ lies misses. subst (λ z. Bounds e z (val x θ)) (sym next_is)
+      (beside_spared e number (val x θ) within (subst (λ z. Bounds e z (val x θ)) (sym is) (bound_value e old.box x θ well_formed inside lies)) misses)))
 
   -- ---- each number of a run
   pub off_none : (low : ℤ) (s : Stored) → IsBox s.box → Step (AreOff x low low) (Misses x run) s s passed.Done
@@ -67,7 +75,7 @@ module _ (x : Term) (run : ℤ × ℤ) where
   pub off_more : (low v : ℤ) (a b d : Stored) → run.0 ≤ℤ v → v ≤ℤ run.1 → Step (AreOff x low v) (Misses x run) a b passed.Done → Step (IsGone x v) (Gives (IsNot v) x) b d passed.Done → Step (AreOff x low (v +ℤ pos 1)) (Misses x run) a d passed.Done
   unfolding AreOff IsGone
   off_more low v a b d from to so_far one = step_for (λ box. AreOff x low v box × IsGone x v box) (AreOff x low (v +ℤ pos 1)) (Misses x run) (Misses x run) a d passed.Done
-      (λ same both w above less looked. elim (order w v) [
+      (λ same both w above less looked. elim (below_or_from w v) [
         | inl below ↦ both.0 w above below looked
         | inr past ↦ both.1 (subst (IsLookedAt d.box x) (omega (arith, ints)) looked)
       ])
@@ -94,24 +102,30 @@ module _ (x : Term) (run : ℤ × ℤ) where
       (λ θ lies misses. misses) step
 
   -- ---- a whole run
-  run_off : (box : List (List ℤ)) → LowIsOff x run box → HighIsOff x run box → EachIsOff x run box → RunIsOff x run box
-  unfolding LowIsOff HighIsOff EachIsOff RunIsOff
+  run_off : (box : List (List ℤ)) → BoundIsOff extreme.Least x run box → BoundIsOff extreme.Greatest x run box → EachIsOff x run box → RunIsOff x run box
+  unfolding BoundIsOff bound_of EachIsOff RunIsOff
   run_off box low high (inr each) v looked within = each v looked within
   run_off box low high (inl wide) v looked within = elim (looked.bound wide) [
     | inl is ↦ low (subst (IsWithin run) is within)
     | inr is ↦ high (subst (IsWithin run) is within)
   ]
 
-  pub low_end : (a b : Stored) → Step (LowIsOff x run) (Misses x run) a b passed.Empty → Step (RunIsOff x run) (Misses x run) a b passed.Empty
-  low_end a b step = step_end (LowIsOff x run) (RunIsOff x run) (Misses x run) a b step
+  abbrev LowIsOff : List (List ℤ) → Type 0
+  LowIsOff = BoundIsOff extreme.Least x run
 
-  pub high_end : (a b d : Stored) → Step (LowIsOff x run) (Misses x run) a b passed.Done → Step (HighIsOff x run) (Misses x run) b d passed.Empty → Step (RunIsOff x run) (Misses x run) a d passed.Empty
-  high_end a b d first then = step_end (λ box. LowIsOff x run box × HighIsOff x run box) (RunIsOff x run) (Misses x run) a d (step_both (LowIsOff x run) (HighIsOff x run) (Misses x run) a b d passed.Empty first then)
+  abbrev HighIsOff : List (List ℤ) → Type 0
+  HighIsOff = BoundIsOff extreme.Greatest x run
 
-  pub run_steps : (a b d e : Stored) (result : Passed) → Step (LowIsOff x run) (Misses x run) a b passed.Done → Step (HighIsOff x run) (Misses x run) b d passed.Done → Step (EachIsOff x run) (Misses x run) d e result → Step (RunIsOff x run) (Misses x run) a e result
-  run_steps a b d e result first then last = step_for (λ box. (LowIsOff x run box × HighIsOff x run box) × EachIsOff x run box) (RunIsOff x run) (Misses x run) (Misses x run) a e result
+  pub low_end : (a b : Stored) → Step (LowIsOff) (Misses x run) a b passed.Empty → Step (RunIsOff x run) (Misses x run) a b passed.Empty
+  low_end a b step = step_end (LowIsOff) (RunIsOff x run) (Misses x run) a b step
+
+  pub high_end : (a b d : Stored) → Step (LowIsOff) (Misses x run) a b passed.Done → Step (HighIsOff) (Misses x run) b d passed.Empty → Step (RunIsOff x run) (Misses x run) a d passed.Empty
+  high_end a b d first then = step_end (λ box. LowIsOff box × HighIsOff box) (RunIsOff x run) (Misses x run) a d (step_both (LowIsOff) (HighIsOff) (Misses x run) a b d passed.Empty first then)
+
+  pub run_steps : (a b d e : Stored) (result : Passed) → Step (LowIsOff) (Misses x run) a b passed.Done → Step (HighIsOff) (Misses x run) b d passed.Done → Step (EachIsOff x run) (Misses x run) d e result → Step (RunIsOff x run) (Misses x run) a e result
+  run_steps a b d e result first then last = step_for (λ box. (LowIsOff box × HighIsOff box) × EachIsOff x run box) (RunIsOff x run) (Misses x run) (Misses x run) a e result
       (λ same all. run_off e.box all.0.0 all.0.1 all.1) (λ θ lies misses. misses)
-      (step_both (λ box. LowIsOff x run box × HighIsOff x run box) (EachIsOff x run) (Misses x run) a d e result (step_both (LowIsOff x run) (HighIsOff x run) (Misses x run) a b d passed.Done first then) last)
+      (step_both (λ box. LowIsOff box × HighIsOff box) (EachIsOff x run) (Misses x run) a d e result (step_both (LowIsOff) (HighIsOff) (Misses x run) a b d passed.Done first then) last)
 
 -- ---- all runs
 module _ (x : Term) (set : List (ℤ × ℤ)) where

@@ -7,29 +7,23 @@ use Rattle.fzn_model.specs.declared.base.Base.{Base}
 use Rattle.fzn_model.specs.declared.con.Con.TheVariants as con
 use Rattle.fzn_model.specs.Meaning.{val, bit, Holds}
 use Rattle.fzn_model.specs.Limits.{TermIn, IsBit}
-use Rattle.fzn_model.specs.Boxes.{IsBox, InBox}
+use Rattle.fzn_model.specs.Boxes.{IsBox}
+use Rattle.fzn_model.specs.Bounds.{IsFixed, IsAt}
+use Rattle.fzn_model.specs.Booleans.{FitsBox}
+use Rattle.fzn_model.specs.Named.{base_terms, con_terms}
+use Rattle.fzn_model.proofs.Terms.{at_val}
 use Rattle.dom_store.specs.declared.pass.Passed.{Passed}
 use Rattle.dom_store.specs.declared.pass.Passed.TheVariants as passed
 use Rattle.dom_store.specs.Stores.{Stored}
-use Rattle.fzn_model.specs.Bounds.{IsFixed, IsAt}
-use Rattle.fzn_model.specs.Booleans.{FitsBox}
-use Rattle.dom_store.specs.Narrowing.{Prunes}
-use Rattle.dom_store.specs.Passes.{Concludes}
-use Rattle.fzn_model.specs.Named.{base_terms}
-use Rattle.dom_store.specs.Strength.{BaseIsShown, BaseIsRefuted, IsChecked, IsOwed}
-use Rattle.fzn_model.proofs.Terms.{at_val}
-use Rattle.dom_store.proofs.Laws.{fits_after}
-use Rattle.reif_prop.specs.declared.verdict.Verdict.{Verdict}
+use Rattle.dom_store.specs.Strength.{ConIsOwed, IsChecked}
+use Rattle.dom_store.specs.Steps.{Step, Gives, Is, ValueIs}
+use Rattle.dom_store.proofs.Stepping.{step_idle, step_none, step_for}
 use Rattle.reif_prop.specs.declared.verdict.Verdict.TheVariants as verdict
 use Rattle.reif_prop.specs.Parts.{IsOver}
-use Rattle.dom_store.specs.Steps.{Reaches, Step}
 use Rattle.reif_prop.specs.Failing.{Fails}
-use Rattle.reif_prop.specs.Judging.{IsJudged, IsBy, IsTermFixed}
-use Rattle.dom_store.specs.Steps.{Gives, Is, ValueIs}
-use Rattle.reif_prop.specs.Denying.{IsDenied, IsDeniedBy}
-use Rattle.dom_store.proofs.Stepping.{step_idle, step_for, step_both}
+use Rattle.reif_prop.specs.Judging.{IsJudged, IsTested, CanHold, HasFailed}
 use Rattle.reif_prop.proofs.Clauses.{val_bit}
-use Rattle.reif_prop.proofs.Showing.{shown_holds, refuted_fails, clash, fixed_refuted}
+use Rattle.reif_prop.proofs.Showing.{shown_holds, refuted_fails, fixed_refuted}
 
 -- ---- the term
 other_bit : (f : Bool) (z : ℤ) → IsBit z → (z ≡ bit f → ⊥) → z ≡ bit (not f)
@@ -47,83 +41,63 @@ module _ (b : Base) (r : Term) (f : Bool) where
   pub term_in : (box : List (List ℤ)) → FitsBox box (con.Reif b r f) → TermIn (length box) r
   term_in box fits_box = fits_box.kept.1
 
-  -- ---- the steps
-  pub shown_fixes : (old new : Stored) (result : Passed) → IsBox old.box → FitsBox old.box (con.Reif b r f) → IsJudged old.box b verdict.Shown → Step (ValueIs r (bit f)) (Gives (Is (bit f)) r) old new result → Step (IsTermFixed b r f) (Holds (con.Reif b r f)) old new result
-  unfolding IsJudged ValueIs Gives
-  shown_fixes old new result well_formed fits_box judged step = step_for (ValueIs r (bit f)) (IsTermFixed b r f) (Gives (Is (bit f)) r) (Holds (con.Reif b r f)) old new result
-      (λ same at. record { shown = verdict.Shown; judged = subst (λ box. BaseIsShown box b) (sym same) judged; by = at })
-      (λ θ lies holds. holds.0 (shown_holds old.box θ lies b (over_base old.box well_formed fits_box) judged)) step
+  -- ---- what is owed
+  all_terms : (box : List (List ℤ)) → All (IsFixed box) (con_terms (con.Reif b r f)) → All (IsFixed box) (base_terms b)
+  all_terms box all k d h = all (suc k) d (omega (arith, h))
 
-  pub refuted_fixes : (old new : Stored) (result : Passed) → IsBox old.box → FitsBox old.box (con.Reif b r f) → IsJudged old.box b verdict.Refuted → Step (ValueIs r (bit (not f))) (Gives (Is (bit (not f))) r) old new result → Step (IsTermFixed b r f) (Holds (con.Reif b r f)) old new result
-  unfolding IsJudged ValueIs Gives
-  refuted_fixes old new result well_formed fits_box judged step = step_for (ValueIs r (bit (not f))) (IsTermFixed b r f) (Gives (Is (bit (not f))) r) (Holds (con.Reif b r f)) old new result
-      (λ same at. record { shown = verdict.Refuted; judged = subst (λ box. BaseIsRefuted box b) (sym same) judged; by = at })
-      (λ θ lies holds. other_bit f (val r θ) (val_bit old.box r θ fits_box.booleans.1 fits_box.kept.1 lies) (λ e. refuted_fails old.box θ lies b (over_base old.box well_formed fits_box) judged (holds.1 e))) step
+  must_owed : (box : List (List ℤ)) → IsBox box → FitsBox box (con.Reif b r f) → IsAt box r (bit f) → CanHold b box → ConIsOwed (con.Reif b r f) box
+  unfolding IsChecked
+  must_owed box well_formed fits_box at can = record {
+    kind = record { shown = λ s. at; refuted = λ no. absurd (can.possible no); denied = λ other. absurd (bits_apart f (sym other.low ∙ at.low)) };
+    checked = λ all θ lies. ((λ holds. at_val box r (bit f) θ well_formed fits_box.kept.1 at lies), (λ is. shown_holds box θ lies b (over_base box well_formed fits_box) (can.fixed (all_terms box all))));
+  }
 
-  pub unknown_fixes : (s : Stored) → IsBox s.box → IsJudged s.box b verdict.Unknown → Step (IsTermFixed b r f) (Holds (con.Reif b r f)) s s passed.Done
-  unknown_fixes s well_formed judged = step_idle (IsTermFixed b r f) (Holds (con.Reif b r f)) s well_formed (record { shown = verdict.Unknown; judged = judged; by = tt })
+  failed_owed : (box : List (List ℤ)) → IsBox box → FitsBox box (con.Reif b r f) → IsAt box r (bit (not f)) → HasFailed b box → ConIsOwed (con.Reif b r f) box
+  unfolding IsChecked
+  failed_owed box well_formed fits_box at failed = record {
+    kind = record { shown = λ s. absurd (failed.possible s); refuted = λ no. at; denied = λ other. failed.owed };
+    checked = λ all θ lies. (
+      (λ holds. absurd (refuted_fails box θ lies b (over_base box well_formed fits_box) (failed.fixed (all_terms box all)) holds)),
+      (λ is. absurd (bits_apart f (sym (at_val box r (bit (not f)) θ well_formed fits_box.kept.1 at lies) ∙ is))),
+    );
+  }
 
-  pub denied_by : (old new : Stored) (result : Passed) → IsBox old.box → FitsBox old.box (con.Reif b r f) → IsAt old.box r (bit (not f)) → Step (IsDenied b) (Fails b) old new result → Step (IsDeniedBy b r f) (Holds (con.Reif b r f)) old new result
-  unfolding IsDenied IsDeniedBy Fails
-  denied_by old new result well_formed fits_box at step = step_for (IsDenied b) (IsDeniedBy b r f) (Fails b) (Holds (con.Reif b r f)) old new result
-      (λ same denied again. denied)
+  unknown_owed : (box : List (List ℤ)) → IsBox box → FitsBox box (con.Reif b r f) → (IsAt box r (bit (not f)) → ⊥) → IsJudged box b verdict.Unknown → ConIsOwed (con.Reif b r f) box
+  unfolding IsJudged IsChecked
+  unknown_owed box well_formed fits_box apart judged = record {
+    kind = record { shown = λ s. absurd (judged.0 s); refuted = λ no. absurd (judged.1 no); denied = λ other. absurd (apart other) };
+    checked = λ all. absurd (judged.1 (fixed_refuted box b (over_base box well_formed fits_box) (all_terms box all) judged.0));
+  }
+
+  -- ---- the steps, where the term says that the base holds
+  pub must_none : (s : Stored) → IsBox s.box → FitsBox s.box (con.Reif b r f) → IsAt s.box r (bit f) → IsTested s.box b true → Step (ConIsOwed (con.Reif b r f)) (Holds (con.Reif b r f)) s s passed.Empty
+  unfolding IsTested
+  must_none s well_formed fits_box at refuted = step_none (ConIsOwed (con.Reif b r f)) (Holds (con.Reif b r f)) s well_formed
+      (λ θ lies holds. refuted_fails s.box θ lies b (over_base s.box well_formed fits_box) refuted (holds.1 (at_val s.box r (bit f) θ well_formed fits_box.kept.1 at lies)))
+
+  pub must_idle : (s : Stored) → IsBox s.box → FitsBox s.box (con.Reif b r f) → IsAt s.box r (bit f) → IsTested s.box b false → Step (ConIsOwed (con.Reif b r f)) (Holds (con.Reif b r f)) s s passed.Done
+  unfolding IsTested
+  must_idle s well_formed fits_box at can = step_idle (ConIsOwed (con.Reif b r f)) (Holds (con.Reif b r f)) s well_formed (must_owed s.box well_formed fits_box at can)
+
+  -- ---- where it says that the base fails
+  pub failed_step : (old new : Stored) (result : Passed) → IsBox old.box → FitsBox old.box (con.Reif b r f) → IsAt old.box r (bit (not f)) → Step (HasFailed b) (Fails b) old new result → Step (ConIsOwed (con.Reif b r f)) (Holds (con.Reif b r f)) old new result
+  unfolding Fails
+  failed_step old new result well_formed fits_box at step = step_for (HasFailed b) (ConIsOwed (con.Reif b r f)) (Fails b) (Holds (con.Reif b r f)) old new result
+      (λ same failed. failed_owed new.box step.well_formed (subst (λ box. FitsBox box (con.Reif b r f)) (sym same) fits_box) (subst (λ box. IsAt box r (bit (not f))) (sym same) at) failed)
       (λ θ lies holds fine. bits_apart f (sym (at_val old.box r (bit (not f)) θ well_formed fits_box.kept.1 at lies) ∙ holds.0 fine)) step
 
-  pub not_denied : (s : Stored) → IsBox s.box → (IsAt s.box r (bit (not f)) → ⊥) → Step (IsDeniedBy b r f) (Holds (con.Reif b r f)) s s passed.Done
-  unfolding IsDeniedBy
-  not_denied s well_formed apart = step_idle (IsDeniedBy b r f) (Holds (con.Reif b r f)) s well_formed (λ at. absurd (apart at))
+  -- ---- where it is open
+  pub shown_fixes : (old new : Stored) (result : Passed) → IsBox old.box → FitsBox old.box (con.Reif b r f) → (IsAt old.box r (bit f) → ⊥) → IsJudged old.box b verdict.Shown → Step (ValueIs r (bit f)) (Gives (Is (bit f)) r) old new result → Step (ConIsOwed (con.Reif b r f)) (Holds (con.Reif b r f)) old new result
+  unfolding IsJudged ValueIs Gives
+  shown_fixes old new result well_formed fits_box apart judged step = step_for (ValueIs r (bit f)) (ConIsOwed (con.Reif b r f)) (Gives (Is (bit f)) r) (Holds (con.Reif b r f)) old new result
+      (λ same at. absurd (apart (subst (λ box. IsAt box r (bit f)) same at)))
+      (λ θ lies holds. holds.0 (shown_holds old.box θ lies b (over_base old.box well_formed fits_box) judged)) step
 
-  -- ---- what is owed
-  by_shown : (box : List (List ℤ)) (v : Verdict) → IsOver box b → IsJudged box b v → IsBy box r f v → BaseIsShown box b → IsAt box r (bit f)
-  unfolding IsJudged
-  by_shown box verdict.Shown over judged by shown = by
-  by_shown box verdict.Refuted over judged by shown = absurd (clash box b over shown judged)
-  by_shown box verdict.Unknown over judged by shown = absurd (judged.0 shown)
+  pub refuted_fixes : (old new : Stored) (result : Passed) → IsBox old.box → FitsBox old.box (con.Reif b r f) → (IsAt old.box r (bit (not f)) → ⊥) → IsJudged old.box b verdict.Refuted → Step (ValueIs r (bit (not f))) (Gives (Is (bit (not f))) r) old new result → Step (ConIsOwed (con.Reif b r f)) (Holds (con.Reif b r f)) old new result
+  unfolding IsJudged ValueIs Gives
+  refuted_fixes old new result well_formed fits_box apart judged step = step_for (ValueIs r (bit (not f))) (ConIsOwed (con.Reif b r f)) (Gives (Is (bit (not f))) r) (Holds (con.Reif b r f)) old new result
+      (λ same at. absurd (apart (subst (λ box. IsAt box r (bit (not f))) same at)))
+      (λ θ lies holds. other_bit f (val r θ) (val_bit old.box r θ fits_box.booleans.1 fits_box.kept.1 lies) (λ e. refuted_fails old.box θ lies b (over_base old.box well_formed fits_box) judged (holds.1 e))) step
 
-  by_refuted : (box : List (List ℤ)) (v : Verdict) → IsOver box b → IsJudged box b v → IsBy box r f v → BaseIsRefuted box b → IsAt box r (bit (not f))
-  unfolding IsJudged
-  by_refuted box verdict.Shown over judged by refuted = absurd (clash box b over judged refuted)
-  by_refuted box verdict.Refuted over judged by refuted = by
-  by_refuted box verdict.Unknown over judged by refuted = absurd (judged.1 refuted)
-
-  by_holds : (box : List (List ℤ)) (v : Verdict) → IsOver box b → TermIn (length box) r → IsJudged box b v → IsBy box r f v → All (IsFixed box) (base_terms b) → (θ : List ℤ) → InBox box θ → Holds (con.Reif b r f) θ
-  unfolding IsJudged
-  by_holds box verdict.Shown over inside judged by all θ lies =
-      ((λ holds. at_val box r (bit f) θ over.well_formed inside by lies), (λ is. shown_holds box θ lies b over judged))
-  by_holds box verdict.Refuted over inside judged by all θ lies =
-      ((λ holds. absurd (refuted_fails box θ lies b over judged holds)), (λ is. absurd (bits_apart f (sym (at_val box r (bit (not f)) θ over.well_formed inside by lies) ∙ is))))
-  by_holds box verdict.Unknown over inside judged by all θ lies = absurd (judged.1 (fixed_refuted box b over all judged.0))
-
-  owed : (box : List (List ℤ)) → IsBox box → FitsBox box (con.Reif b r f) → IsTermFixed b r f box → IsDeniedBy b r f box → IsOwed box (con.Reif b r f)
-  unfolding IsDeniedBy IsChecked
-  owed box well_formed fits_box fixed_term denied =
-      let over = over_base box well_formed fits_box in
-      record {
-        kind = record {
-          shown = by_shown box fixed_term.shown over fixed_term.judged fixed_term.by;
-          refuted = by_refuted box fixed_term.shown over fixed_term.judged fixed_term.by;
-          denied = denied;
-        };
-        checked = λ all. by_holds box fixed_term.shown over fits_box.kept.1 fixed_term.judged fixed_term.by (λ k d h. all (suc k) d (omega (arith, h)));
-      }
-
-  -- ---- a whole pass
-  pub step_prunes : (P : List (List ℤ) → Type 0) (old new : Stored) (result : Passed) → Step P (Holds (con.Reif b r f)) old new result → Prunes (Holds (con.Reif b r f)) old new
-  step_prunes P old new result step = step.prunes
-
-  pub still_fits : (P : List (List ℤ) → Type 0) (old new : Stored) (result : Passed) → Step P (Holds (con.Reif b r f)) old new result → FitsBox old.box (con.Reif b r f) → FitsBox new.box (con.Reif b r f)
-  still_fits P old new result step fits_box = fits_after (Holds (con.Reif b r f)) old.box new.box (con.Reif b r f) step.prunes.loses fits_box
-
-  pub none_concludes : (P : List (List ℤ) → Type 0) (old new : Stored) → Step P (Holds (con.Reif b r f)) old new passed.Empty → Concludes (con.Reif b r f) old.box new.box passed.Empty
-  unfolding Reaches
-  none_concludes P old new step = step.reaches
-
-  pub both : (a c d : Stored) (result : Passed) → Step (IsTermFixed b r f) (Holds (con.Reif b r f)) a c passed.Done → Step (IsDeniedBy b r f) (Holds (con.Reif b r f)) c d result → Step (λ box. IsTermFixed b r f box × IsDeniedBy b r f box) (Holds (con.Reif b r f)) a d result
-  both a c d result first then = step_both (IsTermFixed b r f) (IsDeniedBy b r f) (Holds (con.Reif b r f)) a c d result first then
-
-  pub both_conclude : (a d : Stored) (result : Passed) → FitsBox a.box (con.Reif b r f) → Step (λ box. IsTermFixed b r f box × IsDeniedBy b r f box) (Holds (con.Reif b r f)) a d result → Concludes (con.Reif b r f) a.box d.box result
-  unfolding Reaches
-  both_conclude a d passed.Done fits_box step = λ same.
-      let all = step.reaches same in
-      owed d.box step.well_formed (still_fits (λ box. IsTermFixed b r f box × IsDeniedBy b r f box) a d passed.Done step fits_box) all.0 all.1
-  both_conclude a d passed.Empty fits_box step = step.reaches
+  pub unknown_idle : (s : Stored) → IsBox s.box → FitsBox s.box (con.Reif b r f) → (IsAt s.box r (bit (not f)) → ⊥) → IsJudged s.box b verdict.Unknown → Step (ConIsOwed (con.Reif b r f)) (Holds (con.Reif b r f)) s s passed.Done
+  unknown_idle s well_formed fits_box apart judged = step_idle (ConIsOwed (con.Reif b r f)) (Holds (con.Reif b r f)) s well_formed (unknown_owed s.box well_formed fits_box apart judged)

@@ -1,10 +1,13 @@
 -- What each step for a base that has to fail reaches.
-use Rattle.std.specs.Prelude.{◌≡◌, ℕ, ◌<◌, ◌⊎◌, List, slice_index_or, Bool, not, ℤ, ◌≤ℤ◌, ◌<ℤ◌, All}
+use Rattle.std.specs.Prelude.{◌≡◌, ℕ, ◌<◌, ◌⊎◌, List, slice_index_or, ℤ, pos, ◌+ℤ◌, ◌-ℤ◌, ◌≤ℤ◌, ◌<ℤ◌, All}
 use Rattle.fzn_model.specs.declared.term.Term.{Term}
 use Rattle.fzn_model.specs.declared.base.Base.{Base}
 use Rattle.fzn_model.specs.Sets.{IsWithin}
-use Rattle.fzn_model.specs.Meaning.{val, bit}
-use Rattle.fzn_model.specs.Bounds.{term_low, term_high, IsAt, IsWide, IsLookedAt}
+use Rattle.fzn_model.specs.Meaning.{val}
+use Rattle.fzn_model.specs.Bounds.{IsAt, IsWide, IsLookedAt}
+use Rattle.dom_store.specs.declared.extreme.Extreme.{Extreme}
+use Rattle.dom_store.specs.declared.extreme.Extreme.TheVariants as extreme
+use Rattle.dom_store.specs.Extremes.{bound_of}
 use Rattle.dom_store.specs.Strength.{DeniedIsOwed}
 
 -- ---- literals
@@ -21,13 +24,14 @@ FirstAre ts v n box = (k : ℕ) (d : Term) → k < n → IsAt box (slice_index_o
 unfoldable pub Misses : Term → ℤ × ℤ → List ℤ → Type 0
 Misses x run θ = IsWithin run (val x θ) → ⊥
 
--- its least value is not in the run
-unfoldable pub LowIsOff : Term → ℤ × ℤ → List (List ℤ) → Type 0
-LowIsOff x run box = IsWithin run (term_low box x) → ⊥
+-- one of its bounds is not in the run
+unfoldable pub BoundIsOff : Extreme → Term → ℤ × ℤ → List (List ℤ) → Type 0
+BoundIsOff e x run box = IsWithin run (bound_of e x box) → ⊥
 
--- its greatest value is not
-unfoldable pub HighIsOff : Term → ℤ × ℤ → List (List ℤ) → Type 0
-HighIsOff x run box = IsWithin run (term_high box x) → ⊥
+-- the number after a run, or before it: where a bound comes that leaves the run
+abbrev pub number_beside : Extreme → ℤ × ℤ → ℤ
+number_beside extreme.Least run = run.1 +ℤ pos 1
+number_beside extreme.Greatest run = run.0 -ℤ pos 1
 
 -- no number from a low to below a high is looked at
 unfoldable pub AreOff : Term → ℤ → ℤ → List (List ℤ) → Type 0
@@ -48,7 +52,3 @@ FirstRunsAreOff x set n box = (k : ℕ) (d : ℤ × ℤ) → k < n → (v : ℤ)
 -- what is owed where it has to fail
 unfoldable pub IsDenied : Base → List (List ℤ) → Type 0
 IsDenied b box = DeniedIsOwed box b
-
--- what is owed of it beside the term
-unfoldable pub IsDeniedBy : Base → Term → Bool → List (List ℤ) → Type 0
-IsDeniedBy b r f box = IsAt box r (bit (not f)) → DeniedIsOwed box b

@@ -2,19 +2,11 @@
 use Rattle.std.specs.Prelude.{List, length, ℤ}
 use Rattle.fzn_model.specs.declared.term.Term.{Term}
 use Rattle.fzn_model.specs.declared.lin.Rel.{Rel}
-use Rattle.fzn_model.specs.declared.clause.Clause.{Clause}
-use Rattle.fzn_model.specs.declared.member.Member.{Member}
 use Rattle.fzn_model.specs.declared.base.Base.{Base}
 use Rattle.fzn_model.specs.declared.base.Base.TheVariants as base
 use Rattle.fzn_model.specs.Limits.{BaseInLimits, of_call}
 use Rattle.fzn_model.specs.Boxes.{IsBox}
 use Rattle.fzn_model.specs.Booleans.{BaseBooleans}
-
-abbrev pub clause_of : List Term → List Term → Clause
-clause_of pos neg = record { pos = pos; neg = neg }
-
-abbrev pub member_of : Term → List (ℤ × ℤ) → Member
-member_of x set = record { x = x; set = set }
 
 abbrev pub relation : Rel → List (ℤ × Term) → ℤ → Base
 relation rel ps r = base.Lin (record { rel = rel; terms = ps; r = r })

@@ -1,14 +1,16 @@
 //! What the bounds show of a clause, and what is done where it has to fail.
-ghost use Rattle.std.specs.Prelude.{◌↔◌, All, Any, IsTrue, length};
+ghost use Rattle.std.specs.Prelude.{◌≡◌, ◌↔◌, ◌⊎◌, pos, true, false, cond, All, Any, IsTrue, IsFalse, length};
 ghost use Rattle.fzn_model.specs.declared.base.Base.TheVariants as base;
 ghost use Rattle.fzn_model.specs.Boxes.{IsBox};
+ghost use Rattle.reif_prop.specs.declared.verdict.Verdict.TheVariants as Verdict;
 ghost use Rattle.fzn_model.specs.Limits.{TermIn, ClauseInLimits};
 ghost use Rattle.fzn_model.specs.Bounds.{IsAt};
-ghost use Rattle.dom_store.specs.Strength.{HasTrue, AllFalse};
-ghost use Rattle.reif_prop.specs.Parts.{clause_of, IsOver};
-ghost use Rattle.dom_store.specs.Steps.{Step};
+ghost use Rattle.dom_store.specs.Strength.{AllFalse};
+ghost use Rattle.dom_store.specs.Bases.{clause_of};
+ghost use Rattle.reif_prop.specs.Parts.{IsOver};
+ghost use Rattle.dom_store.specs.Steps.{Step, Gives, Is, ValueIs};
 ghost use Rattle.reif_prop.specs.Failing.{Fails};
-ghost use Rattle.reif_prop.specs.Judging.{IsJudged};
+ghost use Rattle.reif_prop.specs.Judging.{IsJudged, ListIsJudged, IsTested, HasFailed};
 ghost use Rattle.reif_prop.specs.Denying.{AllHave, FirstAre, IsDenied};
 
 use crate::at::is_at;
@@ -32,15 +34,6 @@ fn all_are_at(store: &Store, terms: &[Term], value: &i64) -> bool
     terms.iter().all(|term| is_at(store, *term, value))
 }
 
-/// Whether some literal is true.
-#[tactic(auto, unfolding(dom_store::specs::Strength::HasTrue))]
-fn has_true(store: &Store, pos: &[Term], neg: &[Term]) -> bool
-    requires { ClauseInLimits (length store.now.box) (clause_of pos.now neg.now) }
-    ensures { IsTrue result ↔ HasTrue store.now.box (clause_of pos.now neg.now) }
-{
-    some_is_at(store, pos, &1) || some_is_at(store, neg, &0)
-}
-
 /// Whether all literals are false.
 #[tactic(auto, unfolding(dom_store::specs::Strength::AllFalse))]
 fn are_false(store: &Store, pos: &[Term], neg: &[Term]) -> bool
@@ -50,19 +43,88 @@ fn are_false(store: &Store, pos: &[Term], neg: &[Term]) -> bool
     all_are_at(store, pos, &0) && all_are_at(store, neg, &1)
 }
 
+/// What no true literal shows, by whether some literal isn't false.
+fn verdict_of(unsure: bool) -> Verdict
+    ensures { result ≡ cond unsure Verdict.Unknown Verdict.Refuted }
+{
+    if unsure {
+        Verdict::Unknown
+    } else {
+        Verdict::Refuted
+    }
+}
+
+/// Whether some term so far does not have the value alone.
+fn opens(store: &Store, term: Term, value: &i64, unsure: bool) -> bool
+    requires { TermIn (length store.now.box) term }
+    ensures yes { IsTrue result → (unsure ≡ true) ⊎ (IsAt store.now.box term value.now → ⊥) }
+    ensures no { IsFalse result → (unsure ≡ false) × IsAt store.now.box term value.now }
+{
+    unsure || !is_at(store, term, value)
+}
+
+/// What one walk over a list of literals shows: that one has the value alone, that all have the other, or neither.
+#[tactic(auto, using(crate::proofs::Listing::some_at, crate::proofs::Listing::judged_by))]
+fn judge_list(store: &Store, terms: &[Term], value: &i64, other: &i64) -> Verdict
+    requires { All (TermIn (length store.now.box)) terms.now }
+    ensures { ListIsJudged store.now.box terms.now value.now other.now result }
+{
+    let mut unsure = false;
+    for term in terms {
+        if is_at(store, *term, value) {
+            return Verdict::Shown;
+        }
+        unsure = opens(store, *term, other, unsure);
+    }
+    verdict_of(unsure)
+}
+
+/// What is shown of a clause with an open literal.
+#[tactic(auto, using(crate::proofs::Listing::open_shown, crate::proofs::Listing::open_unknown))]
+fn judge_open(store: &Store, ones: &[Term], zeros: &[Term]) -> Verdict
+    requires kept { ClauseInLimits (length store.now.box) (clause_of ones.now zeros.now) }
+    requires open { ListIsJudged store.now.box ones.now (pos 1) (pos 0) Verdict.Unknown }
+    ensures { IsJudged store.now.box (base.Clause (clause_of ones.now zeros.now)) result }
+{
+    if some_is_at(store, zeros, &0) {
+        return Verdict::Shown;
+    }
+    Verdict::Unknown
+}
+
 /// What is shown of a clause.
-#[tactic(auto, unfolding(crate::specs::Judging::IsJudged))]
+#[tactic(auto, using(crate::proofs::Listing::first_shown, crate::proofs::Listing::then_judged))]
 pub(crate) fn judge_clause(store: &Store, pos: &[Term], neg: &[Term]) -> Verdict
     requires { ClauseInLimits (length store.now.box) (clause_of pos.now neg.now) }
     ensures { IsJudged store.now.box (base.Clause (clause_of pos.now neg.now)) result }
 {
-    if has_true(store, pos, neg) {
-        return Verdict::Shown;
+    match judge_list(store, pos, &1, &0) {
+        Verdict::Shown => Verdict::Shown,
+        Verdict::Refuted => judge_list(store, neg, &0, &1),
+        Verdict::Unknown => judge_open(store, pos, neg),
     }
-    if are_false(store, pos, neg) {
-        return Verdict::Refuted;
+}
+
+/// Whether a clause that has to hold can't; a literal that isn't false ends the search.
+#[tactic(auto, using(crate::proofs::Testing::clause_tested))]
+pub(crate) fn clause_fails(store: &Store, pos: &[Term], neg: &[Term]) -> bool
+    requires { IsOver store.now.box (base.Clause (clause_of pos.now neg.now)) }
+    ensures { IsTested store.now.box (base.Clause (clause_of pos.now neg.now)) result }
+{
+    are_false(store, pos, neg)
+}
+
+/// Keeps one value of a term, which may have no other.
+#[tactic(auto, using(crate::proofs::Clauses::at_idle))]
+fn fix_once(store: &mut Store, term: Term, value: &i64) -> Passed
+    requires well_formed { IsBox store.old.box }
+    requires term { TermIn (length store.old.box) term }
+    ensures { Step (ValueIs term value.now) (Gives (Is value.now) term) store.old store.new result }
+{
+    if is_at(store, term, value) {
+        return Passed::Done;
     }
-    Verdict::Unknown
+    fix(store, term, value)
 }
 
 /// Keeps one value of all terms of a list.
@@ -72,7 +134,7 @@ fn fix_all(store: &mut Store, terms: &[Term], value: &i64) -> Passed
     ensures { Step (FirstAre terms.now value.now (length terms.now)) (AllHave terms.now value.now) store.old store.new result }
 {
     for term in terms {
-        match fix(store, *term, value) {
+        match fix_once(store, *term, value) {
             Passed::Empty => return Passed::Empty,
             Passed::Done => {}
         }
@@ -81,7 +143,7 @@ fn fix_all(store: &mut Store, terms: &[Term], value: &i64) -> Passed
 }
 
 /// Makes all literals of a clause false.
-pub(crate) fn deny_clause(store: &mut Store, pos: &[Term], neg: &[Term]) -> Passed
+fn deny_clause(store: &mut Store, pos: &[Term], neg: &[Term]) -> Passed
     requires { IsOver store.old.box (base.Clause (clause_of pos.now neg.now)) }
     ensures { Step (IsDenied (base.Clause (clause_of pos.now neg.now))) (Fails (base.Clause (clause_of pos.now neg.now))) store.old store.new result }
 {
@@ -90,4 +152,13 @@ pub(crate) fn deny_clause(store: &mut Store, pos: &[Term], neg: &[Term]) -> Pass
         Passed::Done => {}
     }
     fix_all(store, neg, &1)
+}
+
+/// Makes all literals of a clause false that has to fail.
+#[tactic(auto, using(crate::proofs::Testing::clause_step))]
+pub(crate) fn deny_literals(store: &mut Store, pos: &[Term], neg: &[Term]) -> Passed
+    requires { IsOver store.old.box (base.Clause (clause_of pos.now neg.now)) }
+    ensures { Step (HasFailed (base.Clause (clause_of pos.now neg.now))) (Fails (base.Clause (clause_of pos.now neg.now))) store.old store.new result }
+{
+    deny_clause(store, pos, neg)
 }

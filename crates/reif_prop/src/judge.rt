@@ -2,12 +2,11 @@
 ghost use Rattle.reif_prop.specs.Parts.{IsOver};
 ghost use Rattle.dom_store.specs.Steps.{Step};
 ghost use Rattle.reif_prop.specs.Failing.{Fails};
-ghost use Rattle.reif_prop.specs.Judging.{IsJudged};
-ghost use Rattle.reif_prop.specs.Denying.{IsDenied};
+ghost use Rattle.reif_prop.specs.Judging.{IsJudged, IsTested, HasFailed};
 
-use crate::clause::{deny_clause, judge_clause};
-use crate::linear::judge_linear;
-use crate::member::{deny_member, judge_member};
+use crate::clause::{clause_fails, deny_literals, judge_clause};
+use crate::linear::{deny_linear, judge_linear, linear_fails};
+use crate::member::{deny_values, judge_member, member_fails};
 use crate::verdict::Verdict;
 use dom_store::{Passed, Store};
 use fzn_model::Base;
@@ -24,15 +23,26 @@ pub(crate) fn judge(store: &Store, base: &Base) -> Verdict
     }
 }
 
-/// Narrows for a base that has to fail; a linear one is the work of another propagator.
-#[tactic(auto, using(crate::proofs::Bases::linear_denied))]
-pub(crate) fn deny(store: &mut Store, base: &Base) -> Passed
-    requires { IsOver store.old.box base.now }
-    ensures { Step (IsDenied base.now) (Fails base.now) store.old store.new result }
+/// Whether a base that has to hold can't.
+pub(crate) fn base_fails(store: &Store, base: &Base) -> bool
+    requires { IsOver store.now.box base.now }
+    ensures { IsTested store.now.box base.now result }
 {
     match base {
-        Base::Lin(_) => Passed::Done,
-        Base::Clause(clause) => deny_clause(store, clause.pos.as_slice(), clause.neg.as_slice()),
-        Base::Member(member) => deny_member(store, member.x, member.set.runs.as_slice()),
+        Base::Lin(lin) => linear_fails(store, lin.rel, lin.terms.as_slice(), &lin.r),
+        Base::Clause(clause) => clause_fails(store, clause.pos.as_slice(), clause.neg.as_slice()),
+        Base::Member(member) => member_fails(store, member.x, member.set.runs.as_slice()),
+    }
+}
+
+/// Narrows for a base that has to fail; what a linear one is owed is the work of another propagator.
+pub(crate) fn deny(store: &mut Store, base: &Base) -> Passed
+    requires { IsOver store.old.box base.now }
+    ensures { Step (HasFailed base.now) (Fails base.now) store.old store.new result }
+{
+    match base {
+        Base::Lin(lin) => deny_linear(store, lin.rel, lin.terms.as_slice(), &lin.r),
+        Base::Clause(clause) => deny_literals(store, clause.pos.as_slice(), clause.neg.as_slice()),
+        Base::Member(member) => deny_values(store, member.x, member.set.runs.as_slice()),
     }
 }

@@ -11,10 +11,13 @@
 //! is in the set (`ReifIsOwed` of dom_store). Where all terms are fixed, the constraint holds. What a base must do where it
 //! has to hold, and a linear one where it has to fail, is the work of other propagators.
 //!
-//! What it costs: no memory but that of the base. A pass reads a sum up to four times, and a clause up to three times. Of a
-//! member it reads the runs up to three times, and as often the numbers between the bounds of a variable with a bitmap.
+//! What it costs: no memory but that of the base. A pass looks at the term first. Where that is open, the base is judged: a
+//! sum in one walk, and a second one only where its least is the number of an equation; a clause in one walk to its first true
+//! literal; a member by the gaps and the runs of its set, in each to the first value of the variable. Where the term says that
+//! the base holds, a pass looks only whether the bounds show that it fails; where it says that the base fails, only whether
+//! those of a sum show that it holds, and it narrows the literals and values that are left.
 //!
-//! What it stands on: dom_store for stores and terms, fzn_model for constraints.
+//! What it stands on: dom_store for stores, terms and the bounds of sums, fzn_model for constraints.
 #![tactic(auto)]
 
 // One term at one value.
@@ -24,7 +27,6 @@ mod at;
 mod clause;
 mod linear;
 mod member;
-mod sums;
 mod values;
 mod verdict;
 

@@ -1,23 +1,20 @@
 //! What the bounds show of a member of a set, and what is done where it has to be outside.
-ghost use Rattle.std.specs.Prelude.{◌≡◌, ◌↔◌, ◌≤ℤ◌, ◌+ℤ◌, ◌-ℤ◌, pos, IsTrue, length};
+ghost use Rattle.std.specs.Prelude.{◌≡◌, ◌↔◌, ◌≤ℤ◌, ◌+ℤ◌, pos, IsTrue, length};
 ghost use Rattle.fzn_model.specs.declared.base.Base.TheVariants as base;
 ghost use Rattle.fzn_model.specs.Sets.{IsWithin, AreRuns};
 ghost use Rattle.fzn_model.specs.Boxes.{IsBox};
 ghost use Rattle.fzn_model.specs.Limits.{IsValue, TermIn, MemberInLimits};
-ghost use Rattle.fzn_model.specs.Bounds.{IsWide};
-ghost use Rattle.reif_prop.specs.Parts.{member_of, IsOver};
+ghost use Rattle.dom_store.specs.Bases.{member_of};
+ghost use Rattle.reif_prop.specs.Parts.{IsOver};
 ghost use Rattle.dom_store.specs.Steps.{Step, Gives, IsNot, IsGone};
 ghost use Rattle.reif_prop.specs.Failing.{Fails};
-ghost use Rattle.reif_prop.specs.Judging.{IsJudged};
-ghost use Rattle.reif_prop.specs.Denying.{Misses, LowIsOff, HighIsOff, AreOff, EachIsOff, RunIsOff, IsDenied};
+ghost use Rattle.reif_prop.specs.Judging.{IsJudged, IsTested, HasFailed};
+ghost use Rattle.reif_prop.specs.Denying.{Misses, BoundIsOff, number_beside, AreOff, EachIsOff, RunIsOff, IsDenied};
 
 use crate::values::{are_inside, are_outside, end_by, first_from};
 use crate::verdict::Verdict;
-use dom_store::{Passed, Store, cut_above, cut_below, drop_value, greatest, least};
+use dom_store::{Extreme, Passed, Store, bound, can_have, cut, drop_value, is_wide};
 use fzn_model::Term;
-
-/// How many numbers the hull of a variable with a bitmap has at most.
-const NARROW: i64 = 1024;
 
 /// What is shown of a member of a set.
 #[tactic(auto, unfolding(crate::specs::Judging::IsJudged, crate::specs::Values::AllInside, crate::specs::Values::AllOutside))]
@@ -35,6 +32,16 @@ pub(crate) fn judge_member(store: &Store, x: Term, set: &[(i64, i64)]) -> Verdic
     Verdict::Unknown
 }
 
+/// Whether a member of a set that has to be one can't; a value in the set ends the search.
+#[tactic(auto, using(crate::proofs::Testing::member_tested))]
+pub(crate) fn member_fails(store: &Store, x: Term, set: &[(i64, i64)]) -> bool
+    requires over { IsOver store.now.box (base.Member (member_of x set.now)) }
+    requires runs { AreRuns set.now }
+    ensures { IsTested store.now.box (base.Member (member_of x set.now)) result }
+{
+    are_outside(store, x, set)
+}
+
 /// Whether a number is in a run.
 #[tactic(auto, unfolding(fzn_model::specs::Sets::IsWithin))]
 fn is_within(run: &(i64, i64), value: &i64) -> bool
@@ -43,53 +50,41 @@ fn is_within(run: &(i64, i64), value: &i64) -> bool
     run.0 <= *value && *value <= run.1
 }
 
-/// The number after a run.
-fn number_after(run: &(i64, i64)) -> i64
-    requires { IsValue run.now.1 }
-    ensures { result ≡ run.now.1 +ℤ pos 1 }
+/// The number after a run, or before it.
+fn number_beside(extreme: Extreme, run: &(i64, i64)) -> i64
+    requires low { IsValue run.now.0 }
+    requires high { IsValue run.now.1 }
+    ensures { result ≡ number_beside extreme run.now }
 {
-    run.1 + 1
+    match extreme {
+        Extreme::Least => run.1 + 1,
+        Extreme::Greatest => run.0 - 1,
+    }
 }
 
-/// The number before a run.
-fn number_before(run: &(i64, i64)) -> i64
-    requires { IsValue run.now.0 }
-    ensures { result ≡ run.now.0 -ℤ pos 1 }
-{
-    run.0 - 1
-}
-
-/// Raises the least value of a term past a run that has it.
-fn leave_below(store: &mut Store, x: Term, run: &(i64, i64)) -> Passed
+/// Raises the least value of a term past a run that has it, or lowers the greatest below the run.
+fn leave_at(store: &mut Store, x: Term, extreme: Extreme, run: &(i64, i64)) -> Passed
     requires term { TermIn (length store.old.box) x }
-    requires run { IsValue run.now.1 }
-    ensures { Step (LowIsOff x run.now) (Misses x run.now) store.old store.new result }
+    requires low { IsValue run.now.0 }
+    requires high { IsValue run.now.1 }
+    ensures { Step (BoundIsOff extreme x run.now) (Misses x run.now) store.old store.new result }
 {
-    let low = least(store, x);
-    if is_within(run, &low) {
-        return cut_below(store, x, &number_after(run));
+    let number = bound(store, x, extreme);
+    if is_within(run, &number) {
+        return cut(store, x, extreme, &number_beside(extreme, run));
     }
     Passed::Done
 }
 
-/// Lowers the greatest value of a term below a run that has it.
-fn leave_above(store: &mut Store, x: Term, run: &(i64, i64)) -> Passed
-    requires term { TermIn (length store.old.box) x }
-    requires run { IsValue run.now.0 }
-    ensures { Step (HighIsOff x run.now) (Misses x run.now) store.old store.new result }
-{
-    let high = greatest(store, x);
-    if is_within(run, &high) {
-        return cut_above(store, x, &number_before(run));
-    }
-    Passed::Done
-}
-
-/// Drops a number from a term.
+/// Drops a number from a term, which may not have it.
+#[tactic(auto, using(crate::proofs::Members::gone_idle))]
 fn drop_number(store: &mut Store, x: Term, value: i64) -> Passed
     requires { TermIn (length store.old.box) x }
     ensures { Step (IsGone x value) (Gives (IsNot value) x) store.old store.new result }
 {
+    if !can_have(store, x, value) {
+        return Passed::Done;
+    }
     drop_value(store, x, &value)
 }
 
@@ -108,17 +103,6 @@ fn drop_from(store: &mut Store, x: Term, run: &(i64, i64), first: i64, end: i64)
         }
     }
     Passed::Done
-}
-
-/// Whether a term is a variable without a bitmap.
-fn is_wide(store: &Store, x: Term) -> bool
-    requires { TermIn (length store.now.box) x }
-    ensures wide { IsTrue result → IsWide store.now.box x }
-    ensures well_formed { IsBox store.now.box }
-{
-    let low = least(store, x);
-    let high = greatest(store, x);
-    high - low >= NARROW
 }
 
 /// Drops each number of a run from a term, unless that is a variable without a bitmap.
@@ -141,11 +125,11 @@ fn drop_run(store: &mut Store, x: Term, run: &(i64, i64)) -> Passed
     requires high { IsValue run.now.1 }
     ensures { Step (RunIsOff x run.now) (Misses x run.now) store.old store.new result }
 {
-    match leave_below(store, x, run) {
+    match leave_at(store, x, Extreme::Least, run) {
         Passed::Empty => return Passed::Empty,
         Passed::Done => {}
     }
-    match leave_above(store, x, run) {
+    match leave_at(store, x, Extreme::Greatest, run) {
         Passed::Empty => return Passed::Empty,
         Passed::Done => {}
     }
@@ -153,7 +137,7 @@ fn drop_run(store: &mut Store, x: Term, run: &(i64, i64)) -> Passed
 }
 
 /// Drops what a term has of a set.
-pub(crate) fn deny_member(store: &mut Store, x: Term, set: &[(i64, i64)]) -> Passed
+fn deny_member(store: &mut Store, x: Term, set: &[(i64, i64)]) -> Passed
     requires { IsOver store.old.box (base.Member (member_of x set.now)) }
     ensures { Step (IsDenied (base.Member (member_of x set.now))) (Fails (base.Member (member_of x set.now))) store.old store.new result }
 {
@@ -164,4 +148,13 @@ pub(crate) fn deny_member(store: &mut Store, x: Term, set: &[(i64, i64)]) -> Pas
         }
     }
     Passed::Done
+}
+
+/// Drops what a term has of a set that it has to be outside.
+#[tactic(auto, using(crate::proofs::Testing::member_step))]
+pub(crate) fn deny_values(store: &mut Store, x: Term, set: &[(i64, i64)]) -> Passed
+    requires { IsOver store.old.box (base.Member (member_of x set.now)) }
+    ensures { Step (HasFailed (base.Member (member_of x set.now))) (Fails (base.Member (member_of x set.now))) store.old store.new result }
+{
+    deny_member(store, x, set)
 }

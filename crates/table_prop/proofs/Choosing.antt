@@ -1,7 +1,9 @@
 -- A term that has to take one of several numbers.
 use Rattle.std.proofs.Common.{◌≡◌, ℕ, ◌+◌, ◌<◌, ◌≤◌, List, length, refl, sym, subst, arith, below_more, inl, inr}
-use Rattle.std.specs.Prelude.{ℤ, pos, negsuc, ◌+ℤ◌, ◌-ℤ◌, ◌≤ℤ◌, Contains, Option, None, Some, IsSome, IsNone}
+use Rattle.std.specs.Prelude.{ℤ, pos, negsuc, ◌+ℤ◌, ◌-ℤ◌, ◌≤ℤ◌, ◌<ℤ◌, slice_index_or, Contains}
 use Rattle.std.proofs.lemmas.Int.{ints}
+use Rattle.std.proofs.lemmas.List.{get_or_default}
+use Rattle.std.proofs.lemmas.List.Elements.{Contains-get_or}
 use Rattle.fzn_model.specs.declared.term.Term.{Term}
 use Rattle.fzn_model.specs.declared.term.Term.TheVariants as term
 use Rattle.fzn_model.specs.Limits.{TermIn}
@@ -13,8 +15,51 @@ use Rattle.fzn_model.specs.Bounds.{term_low, term_high, TermHas, IsLookedAt, IsW
 use Rattle.dom_store.specs.Narrowing.{Prunes}
 use Rattle.fzn_model.proofs.Terms.{has_between}
 use Rattle.dom_store.specs.Steps.{NarrowsTerm, Gives, IsAtLeast, IsAtMost, IsNot, LowIs, HighIs, IsGone}
-use Rattle.table_prop.specs.Among.{HasNoNumber, IsFirst, IsLast, IsAmong, HasAll, LowIsAmong, HighIsAmong, ValueIsAmong, ValuesAreAmong, EachIsAmong, AreAmong}
+use Rattle.table_prop.specs.Among.{HasNoNumber, IsFirst, IsLast, IsFirstTo, IsLastTo, IsAmong, HasAll, LowIsAmong, HighIsAmong, ValueIsAmong, ValuesAreAmong, EachIsAmong, AreAmong}
 use Rattle.dom_store.proofs.Stepping.{Box, had_before, narrows_in, step_none, narrows_idle, narrows_as, narrows_then, narrows_end_after}
+
+-- ---- the least and the greatest number of a list
+pub first_none : (vs : List ℤ) → 0 < length vs → IsFirstTo vs 0 0
+first_none vs some = record { inside = some; least = λ k h d. absurd (omega (arith, h)) }
+
+pub first_taken : (vs : List ℤ) (place at : ℕ) → IsFirstTo vs at place → at < length vs → slice_index_or vs at (pos 0) <ℤ slice_index_or vs place (pos 0) → IsFirstTo vs (at + 1) at
+first_taken vs place at before inside less = record {
+  inside = inside;
+  least = below_more (λ k. (d : ℤ) → slice_index_or vs at (pos 0) ≤ℤ slice_index_or vs k d) at (λ k h d. let least = before.least k h d in omega (arith, ints, least, less)) (λ d. let same = get_or_default vs at (pos 0) d inside in omega (arith, ints, same));
+}
+
+pub first_kept : (vs : List ℤ) (place at : ℕ) → IsFirstTo vs at place → at < length vs → slice_index_or vs place (pos 0) ≤ℤ slice_index_or vs at (pos 0) → IsFirstTo vs (at + 1) place
+first_kept vs place at before inside more = record {
+  inside = before.inside;
+  least = below_more (λ k. (d : ℤ) → slice_index_or vs place (pos 0) ≤ℤ slice_index_or vs k d) at before.least (λ d. let same = get_or_default vs at (pos 0) d inside in omega (arith, ints, same, more));
+}
+
+pub first_is : (vs : List ℤ) (place : ℕ) → IsFirstTo vs (length vs) place → IsFirst vs (slice_index_or vs place (pos 0))
+first_is vs place is = record {
+  has = Contains-get_or vs place (pos 0) is.inside;
+  least = λ z has. let least = is.least has.0 has.1 z in let same = has.2 in omega (arith, ints, least, same);
+}
+
+pub last_none : (vs : List ℤ) → 0 < length vs → IsLastTo vs 0 0
+last_none vs some = record { inside = some; greatest = λ k h d. absurd (omega (arith, h)) }
+
+pub last_taken : (vs : List ℤ) (place at : ℕ) → IsLastTo vs at place → at < length vs → slice_index_or vs place (pos 0) <ℤ slice_index_or vs at (pos 0) → IsLastTo vs (at + 1) at
+last_taken vs place at before inside more = record {
+  inside = inside;
+  greatest = below_more (λ k. (d : ℤ) → slice_index_or vs k d ≤ℤ slice_index_or vs at (pos 0)) at (λ k h d. let most = before.greatest k h d in omega (arith, ints, most, more)) (λ d. let same = get_or_default vs at (pos 0) d inside in omega (arith, ints, same));
+}
+
+pub last_kept : (vs : List ℤ) (place at : ℕ) → IsLastTo vs at place → at < length vs → slice_index_or vs at (pos 0) ≤ℤ slice_index_or vs place (pos 0) → IsLastTo vs (at + 1) place
+last_kept vs place at before inside less = record {
+  inside = before.inside;
+  greatest = below_more (λ k. (d : ℤ) → slice_index_or vs k d ≤ℤ slice_index_or vs place (pos 0)) at before.greatest (λ d. let same = get_or_default vs at (pos 0) d inside in omega (arith, ints, same, less));
+}
+
+pub last_is : (vs : List ℤ) (place : ℕ) → IsLastTo vs (length vs) place → IsLast vs (slice_index_or vs place (pos 0))
+last_is vs place is = record {
+  has = Contains-get_or vs place (pos 0) is.inside;
+  greatest = λ z has. let most = is.greatest has.0 has.1 z in let same = has.2 in omega (arith, ints, most, same);
+}
 
 -- ---- the bounds
 low_among : (t : Term) (vs : List ℤ) (first : ℤ) (box : Box) → IsFirst vs first → IsBox box → TermIn (length box) t → LowIs t first box → LowIsAmong t vs box
@@ -49,11 +94,10 @@ pub capped_among : (t : Term) (vs : List ℤ) (last : ℤ) (old new : Stored) (r
 capped_among t vs last old new result inside is move =
     narrows_as (IsAtMost last) (IsAmong vs) (HighIs t last) (HighIsAmong t vs) t old new result (λ z among. to_last vs last z is among) (λ runs well_formed reached. high_among t vs last new.box is well_formed (narrows_in (IsAtMost last) (HighIs t last) t old new result move inside) reached) move
 
--- a set without a first or a last member has none
-pub no_number : {X : Type 0} (found : Option X) (vs : List ℤ) → (0 < length vs → IsSome found) → IsNone found → HasNoNumber vs
+-- an empty list has no number
+pub no_number : (vs : List ℤ) → length vs ≡ 0 → HasNoNumber vs
 unfolding HasNoNumber
-no_number None vs some none z has = absurd (cc (some (omega (arith, has.1))))
-no_number (Some x) vs some none z has = absurd (cc none)
+no_number vs none z has = absurd (omega (arith, has.1, none))
 
 -- where there is no number, no assignment is left
 pub none_among : (P : Box → Type 0) (t : Term) (vs : List ℤ) (s : Stored) → IsBox s.box → HasNoNumber vs → NarrowsTerm (IsAmong vs) P t s s passed.Empty

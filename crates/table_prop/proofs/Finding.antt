@@ -1,15 +1,9 @@
 -- The rows that are possible, and their entries in a column.
-use Rattle.std.proofs.Common.{◌≡◌, ℕ, ◌+◌, ◌-◌, ◌*◌, ◌/◌, ◌<◌, ◌≤◌, ◌⊎◌, List, [], ◌∷◌, ◌++◌, length, Bool, true, false, take, drop, refl, sym, subst, ap, ◌∙◌, arith, inl, inr}
-use Rattle.std.specs.Prelude.{ℤ, pos, Contains, slice_index_or, slice_range, cond}
+use Rattle.std.proofs.Common.{◌≡◌, ℕ, ◌+◌, ◌-◌, ◌*◌, ◌/◌, ◌<◌, ◌≤◌, List, [], ◌∷◌, ◌++◌, length, take, drop, sym, subst, ◌∙◌, arith, inl, inr}
+use Rattle.std.specs.Prelude.{ℤ, pos, Contains, slice_index_or, slice_range}
 use Rattle.std.proofs.lemmas.List.{get_or-take, get_or-drop, take_more, take_all}
-use Rattle.std.proofs.lemmas.List.Elements.{All-push, All-weaker, All-contains, Contains-get_or, Contains-append_left, Contains-push, Contains-push_cases}
+use Rattle.std.proofs.lemmas.List.Elements.{All-push, All-weaker, Contains-append_left, Contains-push, Contains-push_cases}
 use Rattle.std.proofs.lemmas.Bool.{cases_lt}
-use Rattle.std.proofs.lemmas.Cmp.{int_cmp_total}
-use Rattle.std.proofs.lemmas.Map.Lookups.{exact_signed}
-use Rattle.std.proofs.lemmas.Map.Views.{btree_set_contains_iff, All-insert_key}
-use Rattle.std.specs.BTreeMap.{is_at}
-use Rattle.std.specs.BTreeSet.{BTreeSet, Updates, insert_key}
-use Rattle.std.specs.Ordering.{int_cmp}
 use Rattle.fzn_model.specs.declared.term.Term.{Term}
 use Rattle.fzn_model.specs.Meaning.{val, IsRow, HasRow}
 use Rattle.fzn_model.specs.Boxes.{InBox}
@@ -76,18 +70,15 @@ chosen_from box xs rows found ready possible = record {
 }
 
 -- ---- the entries in a column
-either : (b : Bool) → cond b true true ≡ true
-either true = refl
-either false = refl
+pub pushed : (v : ℤ) (old new : List ℤ) → new ≡ old ++ v ∷ [] → IsAdded v old new
+pushed v old new is = subst (IsAdded v old) (sym is) (record {
+  has = Contains-push old v;
+  keeps = λ z there. Contains-append_left old (v ∷ []) z there;
+  only = λ z there. elim (Contains-push_cases old v z there) [ inl before ↦ inl before | inr same ↦ inr (sym same) ];
+})
 
-pub added : (v : ℤ) (old new : BTreeSet ℤ) → Updates int_cmp old new v true → new.keys ≡ insert_key int_cmp old.keys v → IsAdded v old.keys new.keys
-added v old new updates keys =
-    let has = λ (s : BTreeSet ℤ) (z : ℤ). btree_set_contains_iff int_cmp_total exact_signed s z in
-    record {
-      has = (has new v).0 updates.1;
-      keeps = λ z there. (has new z).0 (updates.0 z ∙ ap (λ b. cond (is_at (int_cmp v) z) true b) ((has old z).1 there) ∙ either (is_at (int_cmp v) z));
-      only = λ z there. All-contains (λ x. Contains old.keys x ⊎ (x ≡ v)) (insert_key int_cmp old.keys v) z (All-insert_key int_cmp v (λ x. Contains old.keys x ⊎ (x ≡ v)) old.keys (λ k d h. inl (Contains-get_or old.keys k d h)) (inr refl)) (subst (λ ks. Contains ks z) keys there);
-    }
+pub entries_none : (rows : List ℤ) (width column : ℕ) → AreEntries rows width column [] []
+entries_none rows width column = record { each = λ v there. absurd (omega (arith, there.1)); all = λ row there. absurd (omega (arith, there.1)) }
 
 entry_kept : (rows : List ℤ) (width column row : ℕ) (found : List ℕ) (v : ℤ) → IsEntry rows width column found v → IsEntry rows width column (found ++ row ∷ []) v
 unfolding IsEntry

@@ -3,7 +3,7 @@ use Rattle.std.proofs.Common.{◌≡◌, ℕ, ◌+◌, ◌*◌, ◌<◌, List, l
 use Rattle.std.specs.Prelude.{ℤ, pos, Contains, All, slice_index_or, Result, Ok, Err, IfOk}
 use Rattle.std.proofs.lemmas.Int.{ints}
 use Rattle.std.proofs.lemmas.List.{get_or_default}
-use Rattle.std.proofs.lemmas.List.Elements.{All-contains}
+use Rattle.std.proofs.lemmas.List.Elements.{All-contains, Contains-get_or}
 use Rattle.fzn_model.specs.declared.term.Term.{Term}
 use Rattle.fzn_model.specs.declared.term.Term.TheVariants as term
 use Rattle.fzn_model.specs.declared.con.Con.TheVariants as con
@@ -13,7 +13,7 @@ use Rattle.fzn_model.specs.Boxes.{IsBox, InBox}
 use Rattle.dom_store.specs.declared.pass.Passed.{Passed}
 use Rattle.dom_store.specs.declared.pass.Passed.TheVariants as passed
 use Rattle.dom_store.specs.Stores.{Stored}
-use Rattle.fzn_model.specs.Bounds.{term_low, TermHas, IsFixed, IsLookedAt}
+use Rattle.fzn_model.specs.Bounds.{term_low, term_high, TermHas, IsFixed, IsLookedAt}
 use Rattle.dom_store.specs.Strength.{TableIsStrong, IsChecked, IsOwed}
 use Rattle.fzn_model.specs.Booleans.{FitsBox}
 use Rattle.dom_store.specs.Narrowing.{Prunes}
@@ -22,7 +22,7 @@ use Rattle.fzn_model.proofs.Terms.{has_low, has_between, fixed_val}
 use Rattle.dom_store.specs.Steps.{Spares, Reaches, Step, NarrowsTerm}
 use Rattle.dom_store.proofs.Laws.{term_stays, in_before}
 use Rattle.table_prop.specs.Among.{IsAmong, HasAll, ValueIsAmong, AreAmong}
-use Rattle.table_prop.specs.Rows.{IsReady, IsPossible, ArePossible, IsRowAt, AreChosen, IsEntry, AreEntries, IsSupported, AreSupported}
+use Rattle.table_prop.specs.Rows.{IsReady, IsSettled, IsPossible, ArePossible, IsRowAt, AreChosen, IsEntry, AreEntries, IsSupported, AreSupported}
 use Rattle.dom_store.proofs.Stepping.{narrowed, Box, step_idle, step_then, step_end_after, step_as}
 use Rattle.table_prop.proofs.Finding.{range_entry}
 
@@ -52,6 +52,20 @@ pub column_steps : (xs : List Term) (rows : List ℤ) (found : List ℕ) (column
     → NarrowsTerm (IsAmong vs) (AreAmong (slice_index_or xs column d) vs) (slice_index_or xs column d) old new result → Step (IsSupported xs rows found column) (Holds (con.Table xs rows)) old new result
 column_steps xs rows found column d vs old new result chosen h are move =
     step_as (AreAmong (slice_index_or xs column d) vs) (IsSupported xs rows found column) (Holds (con.Table xs rows)) old new result (λ same among. supported_from new.box xs rows found column d vs h are among) (narrowed (Holds (con.Table xs rows)) move (spares old.box xs rows found column d vs chosen h are))
+
+-- where a column has one value, it is an entry of each possible row
+settled_from : (box : Box) (xs : List Term) (rows : List ℤ) (found : List ℕ) (column : ℕ) → IsReady box xs → column < length xs → IsSettled box xs found column → IsSupported xs rows found column box
+unfolding IsSupported IsEntry
+settled_from box xs rows found column ready h settled possible d v at =
+    let row = possible 0 0 settled.some in
+    let t : Term = slice_index_or xs column d in
+    let own = has_between box t _ ready.well_formed (ready.columns column d h) (row.has column d h) in
+    let looked = has_between box t v ready.well_formed (ready.columns column d h) at.has in
+    let fixed : term_low box t ≡ term_high box t = settled.fixed d in
+    (slice_index_or found 0 0, Contains-get_or found 0 0 settled.some, omega (arith, ints, own.0, own.1, looked.0, looked.1, fixed))
+
+pub settled_steps : (xs : List Term) (rows : List ℤ) (found : List ℕ) (column : ℕ) (s : Stored) → IsReady s.box xs → column < length xs → IsSettled s.box xs found column → Step (IsSupported xs rows found column) (Holds (con.Table xs rows)) s s passed.Done
+settled_steps xs rows found column s ready h settled = step_idle (IsSupported xs rows found column) (Holds (con.Table xs rows)) s ready.well_formed (settled_from s.box xs rows found column ready h settled)
 
 -- ---- column after column
 pub ready_first : (box : Box) (xs : List Term) (rows : List ℤ) → IsBox box → FitsBox box (con.Table xs rows) → IsReady box xs

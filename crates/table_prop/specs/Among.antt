@@ -1,5 +1,5 @@
 -- A term that has to take one of several numbers, and numbers that it can all have.
-use Rattle.std.specs.Prelude.{ℕ, ◌<◌, ◌⊎◌, List, ℤ, pos, ◌+ℤ◌, ◌≤ℤ◌, Contains}
+use Rattle.std.specs.Prelude.{ℕ, ◌<◌, ◌⊎◌, List, length, slice_index_or, ℤ, pos, ◌+ℤ◌, ◌≤ℤ◌, Contains}
 use Rattle.fzn_model.specs.declared.term.Term.{Term}
 use Rattle.fzn_model.specs.Bounds.{term_low, term_high, TermHas, IsLookedAt, IsWide}
 
@@ -15,6 +15,19 @@ pub record IsFirst (vs : List ℤ) (first : ℤ) : Type 0 where
 pub record IsLast (vs : List ℤ) (last : ℤ) : Type 0 where
   pub has : Contains vs last
   pub greatest : (z : ℤ) → Contains vs z → z ≤ℤ last
+
+-- the number in a place is at most each of the first n, or at least each
+pub record IsFirstTo (vs : List ℤ) (n place : ℕ) : Type 0 where
+  pub inside : place < length vs
+  pub least : (k : ℕ) → k < n → (d : ℤ) → slice_index_or vs place (pos 0) ≤ℤ slice_index_or vs k d
+
+pub record IsLastTo (vs : List ℤ) (n place : ℕ) : Type 0 where
+  pub inside : place < length vs
+  pub greatest : (k : ℕ) → k < n → (d : ℤ) → slice_index_or vs k d ≤ℤ slice_index_or vs place (pos 0)
+
+-- a number lies between two others, or is one of them
+abbrev pub IsBetween : ℤ → ℤ → ℤ → Type 0
+IsBetween low high z = (low ≤ℤ z) × (z ≤ℤ high)
 
 -- a value is one of the numbers
 unfoldable pub IsAmong : List ℤ → ℤ → Type 0

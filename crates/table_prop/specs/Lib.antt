@@ -1,3 +1,4 @@
 pub mod Kinds
 pub mod Among
+pub mod Marks
 pub mod Rows

@@ -4,7 +4,7 @@ use Rattle.fzn_model.specs.declared.term.Term.{Term}
 use Rattle.fzn_model.specs.Meaning.{val, HasRow}
 use Rattle.fzn_model.specs.Limits.{TermIn}
 use Rattle.fzn_model.specs.Boxes.{IsBox, InBox}
-use Rattle.fzn_model.specs.Bounds.{TermHas, IsLookedAt}
+use Rattle.fzn_model.specs.Bounds.{TermHas, IsLookedAt, IsFixed}
 use Rattle.dom_store.specs.Strength.{entry}
 
 -- a box with the columns of a table, of which there are some
@@ -62,3 +62,8 @@ IsSupported xs rows found column box = All (IsPossible box xs rows) found → (d
 -- so are those of the first n columns
 unfoldable pub AreSupported : List Term → List ℤ → List ℕ → ℕ → List (List ℤ) → Type 0
 AreSupported xs rows found n box = (j : ℕ) → j < n → IsSupported xs rows found j box
+
+-- a column has one value, and there are some rows
+pub record IsSettled (box : List (List ℤ)) (xs : List Term) (found : List ℕ) (column : ℕ) : Type 0 where
+  pub fixed : (d : Term) → IsFixed box (slice_index_or xs column d)
+  pub some : 0 < length found

@@ -7,23 +7,25 @@ ghost use Rattle.dom_store.specs.Passes.{Concludes};
 ghost use Rattle.fzn_model.specs.Meaning.{Holds};
 
 use crate::columns::narrow_columns;
-use crate::rows::possible_rows;
+use crate::rows::find_rows;
 use dom_store::{Passed, Store, recall_domains};
 use fzn_model::Term;
-use std::alloc::{AllocError, Global};
+use std::alloc::AllocError;
 
-/// One pass over a table: keeps the values of each column that the rows have which are possible at its start.
+/// One pass over a table: keeps the values of each column that the rows have which are possible at its start. These
+/// rows and their entries in a column are put in the two lists.
 pub(crate) fn pass_table(
-    alloc: Global,
     store: &mut Store,
     columns: &[Term],
     rows: &[i64],
+    found: &mut Vec<usize>,
+    entries: &mut Vec<i64>,
 ) -> Result<Passed, AllocError>
     requires { FitsBox store.old.box (con.Table columns.now rows.now) }
     ensures prunes { Prunes (Holds (con.Table columns.now rows.now)) store.old store.new }
     ensures means { IfOk result (Concludes (con.Table columns.now rows.now) store.old.box store.new.box) }
 {
     recall_domains(store);
-    let found = possible_rows(alloc, store, columns, rows)?;
-    narrow_columns(alloc, store, columns, rows, found.as_slice())
+    find_rows(store, columns, rows, found)?;
+    narrow_columns(store, columns, rows, found.as_slice(), entries)
 }

@@ -12,7 +12,9 @@ use std::marker::Model;
 pub struct TableProp {
     columns: List<Term>,
     rows: List<i64>,
-    alloc: Global,
+    /// Where a pass puts the numbers of the possible rows, and their entries in a column.
+    found: Vec<usize>,
+    entries: Vec<i64>,
 }
 
 impl Model for TableProp {
@@ -36,7 +38,8 @@ impl TableProp {
         Ok(TableProp {
             columns: columns.copy(alloc)?,
             rows: rows.copy(alloc)?,
-            alloc,
+            found: Vec::new(alloc),
+            entries: Vec::new(alloc),
         })
     }
 }
@@ -46,10 +49,11 @@ impl Pass for TableProp {
 
     fn pass(&mut self, store: &mut Store) -> Result<Passed, AllocError> {
         pass_table(
-            self.alloc,
             store,
             self.columns.as_slice(),
             self.rows.as_slice(),
+            &mut self.found,
+            &mut self.entries,
         )
     }
 }

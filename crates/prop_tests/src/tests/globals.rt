@@ -1,7 +1,7 @@
 //! Values that differ, tasks with a capacity, and tables.
 
 use super::{Row, all_fix};
-use prop_engine::Fixed::{EarlyStop, Empty, Kept};
+use prop_engine::Fixed::{Empty, Kept};
 use std::test::Fail;
 
 /// Intervals that are filled, members that are fixed, wide domains, and too many members.
@@ -91,8 +91,8 @@ static TABLES: [Row; 22] = [
     ("var 1..3: x; var 9..9: y; constraint fzn_table_int([x,y],[1,2,2,3]); solve satisfy;", Empty, &[]),
     ("var 0..5000: x; var 0..9: y; constraint fzn_table_int([x,y],[200,2,4000,3,100,1,9000,4,-7,5]); solve satisfy;", Kept, &[&[(100, 4000)], &[(1, 3)]]),
     ("var 150..3000: x; var 0..9: y; constraint fzn_table_int([x,y],[200,2,4000,3,100,1,9000,4,-7,5]); solve satisfy;", Kept, &[&[(200, 200)], &[(2, 2)]]),
-    ("var 0..200000: x; var 0..0: y; constraint fzn_table_int([x,y],[5,0,1029,0]); solve satisfy;", EarlyStop, &[&[(5, 1029)], &[(0, 0)]]),
-    ("var 0..200000: x; var 0..0: y; constraint fzn_table_int([x,y],[5,0,1028,0]); solve satisfy;", EarlyStop, &[&[(5, 5), (1028, 1028)], &[(0, 0)]]),
+    ("var 0..200000: x; var 0..0: y; constraint fzn_table_int([x,y],[5,0,1029,0]); solve satisfy;", Kept, &[&[(5, 1029)], &[(0, 0)]]),
+    ("var 0..200000: x; var 0..0: y; constraint fzn_table_int([x,y],[5,0,1028,0]); solve satisfy;", Kept, &[&[(5, 5), (1028, 1028)], &[(0, 0)]]),
     ("var -1..4: y; constraint fzn_table_int([y],[3,-1,3,0]); solve satisfy;", Kept, &[&[(-1, 0), (3, 3)]]),
     ("var -1..4: x; var -1..4: z; constraint fzn_table_int([z,x],[1,2,2,3,-1,-1,2,4]); solve satisfy;", Kept, &[&[(-1, -1), (2, 4)], &[(-1, -1), (1, 2)]]),
     ("var -1..4: x; var -1..4: y; var -1..4: z; constraint fzn_table_int([x,y,z],[0,1,2,-1,3,4,2,1,0,4,4,4,0,1,2,1,-1,3]); solve satisfy;", Kept, &[&[(-1, 2), (4, 4)], &[(-1, -1), (1, 1), (3, 4)], &[(0, 0), (2, 4)]]),

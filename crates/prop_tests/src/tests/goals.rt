@@ -57,7 +57,7 @@ fn chain(alloc: Global, count: u32) -> Result<String, AllocError> {
     Ok(text)
 }
 
-/// A chain as long as the domains: each variable has one value, which takes as many rounds.
+/// A chain as long as the domains: each variable has one value, which one run after the other finds.
 #[test]
 fn chains(rt: HostRuntime) -> Result<(), Fail> {
     let alloc = rt.alloc();

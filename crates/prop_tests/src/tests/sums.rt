@@ -5,7 +5,7 @@ use prop_engine::Fixed::{EarlyStop, Empty, Kept};
 use std::test::Fail;
 
 #[rattlefmt::skip]
-static ROWS: [Row; 39] = [
+static ROWS: [Row; 40] = [
     // A sum at most a number, the same as it, and other than it: coefficients of both signs and 0, constants, a variable that stands twice.
     ("var 0..9: x; var 0..9: y; constraint int_lin_le([2,3],[x,y],6); solve satisfy;", Kept, &[&[(0, 3)], &[(0, 2)]]),
     ("var 0..9: x; var 0..9: y; constraint int_lin_le([-2,3],[x,y],-9); solve satisfy;", Kept, &[&[(5, 9)], &[(0, 3)]]),
@@ -22,7 +22,9 @@ static ROWS: [Row; 39] = [
     ("var 0..3: x; var 0..3: y; constraint int_lin_ne([1,1],[x,y],6); solve satisfy;", Kept, &[&[(0, 3)], &[(0, 3)]]),
     ("var 3..3: x; var 2..2: y; constraint int_lin_ne([1,1],[x,y],5); solve satisfy;", Empty, &[]),
     ("var 1..3: x; constraint int_lin_le([1],[x],0); solve satisfy;", Empty, &[]),
-    ("var -1000000..1000000: x; constraint int_lin_le([2,-1],[x,x],0); solve satisfy;", EarlyStop, &[]),
+    // Where bounds fall far at once, nothing stops early; where they creep, it does.
+    ("var 0..9: x; var int: a; var int: b; constraint int_lin_eq([1,-1],[x,a],-1); constraint int_lin_eq([1,-1],[x,b],-2); solve satisfy;", Kept, &[&[(0, 9)], &[(1, 10)], &[(2, 11)]]),
+    ("var -1000000..1000000: x; constraint int_lin_le([2,-1],[x,x],0); solve satisfy;", Kept, &[&[(-1000000, 0)]]),
     ("var -1000000..1000000: x; var -1000000..1000000: y; constraint int_lt(x,y); constraint int_lt(y,x); solve satisfy;", EarlyStop, &[]),
     // A bool tells of a sum, and a sum tells of the bool; where the bool is known, the sum is as the relation or its opposite.
     ("var 1..2: x; var bool: r; constraint int_lin_le_reif([1],[x],3,r); solve satisfy;", Kept, &[&[(1, 2)], &[(1, 1)]]),

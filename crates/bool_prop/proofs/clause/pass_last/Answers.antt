@@ -3,7 +3,7 @@ use Rattle.std.specs.Int.{w64}
 use Rattle.std.proofs.lemmas.Int.{to_z-of_z}
 use Rattle.std.proofs.lemmas.Bool.{false≢true}
 use Rattle.dom_store.specs.Strength.{HasTrue}
-use Rattle.bool_prop.specs.Parts.{clause_of}
+use Rattle.dom_store.specs.Bases.{clause_of}
 use Rattle.bool_prop.proofs.Clauses.{last_fixed}
 use Rattle.bool_prop.proofs.clause.pass_last.Goals as goal
 

@@ -1,15 +1,13 @@
 use Rattle.std.proofs.Common.{◌≡◌, arith, to_z, of_z}
-use Rattle.std.specs.Prelude.{pos, ◌+ℤ◌, ◌-ℤ◌, ◌≤ℤ◌}
+use Rattle.std.specs.Prelude.{pos, ◌+ℤ◌}
 use Rattle.std.specs.Int.{w64}
 use Rattle.std.proofs.lemmas.Int.{ints}
-use Rattle.bool_prop.specs.Parts.{member_of}
+use Rattle.dom_store.specs.Bases.{member_of}
 use Rattle.bool_prop.proofs.Members.{each_inside, wide_left}
 use Rattle.bool_prop.proofs.member.drop_each.Goals as goal
 
-pub returns-then-high-low-ge-NARROW : goal.returns-then-high-low-ge-NARROW
-returns-then-high-low-ge-NARROW c =
-    let wide : pos 1024 ≤ℤ (c.greatest-high.result -ℤ c.least-low.result) = omega (arith, ints) in
-    wide_left (member_of c.args.x c.args.set.now) c.args.store.now c.least-low.result c.greatest-high.result c.least-low.ensures.well_formed c.least-low.ensures.value c.greatest-high.ensures.value wide
+pub returns-then-is_wide : goal.returns-then-is_wide
+returns-then-is_wide c = wide_left (member_of c.args.x c.args.set.now) c.args.store.now c.is_wide.ensures.well_formed (c.is_wide.ensures.value.0 c.if-is_wide.true)
 
 pub returns : goal.returns
 returns c =

@@ -4,8 +4,9 @@ use Rattle.std.specs.Int.{w64}
 use Rattle.std.proofs.lemmas.Int.{ints, to_z-of_z}
 use Rattle.fzn_model.specs.Meaning.{Holds}
 use Rattle.dom_store.proofs.Stepping.{still_in}
-use Rattle.bool_prop.specs.Parts.{member_of, member_con}
-use Rattle.bool_prop.proofs.Comparing.{lt_fails}
+use Rattle.dom_store.specs.Bases.{member_of}
+use Rattle.bool_prop.specs.Parts.{member_con}
+use Rattle.dom_store.proofs.Comparing.{lt_fails}
 use Rattle.bool_prop.proofs.Members.{from_start, from_more, from_less, from_end}
 use Rattle.bool_prop.proofs.member.drop_from.Goals as goal
 

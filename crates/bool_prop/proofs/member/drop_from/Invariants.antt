@@ -1,7 +1,8 @@
 use Rattle.dom_store.specs.declared.pass.Passed.TheVariants as passed
 use Rattle.dom_store.specs.Steps.{Step}
 use Rattle.fzn_model.specs.Meaning.{Holds}
-use Rattle.bool_prop.specs.Parts.{member_of, member_con}
+use Rattle.dom_store.specs.Bases.{member_of}
+use Rattle.bool_prop.specs.Parts.{member_con}
 use Rattle.bool_prop.specs.Inside.{ValuesAreIn}
 use Rattle.bool_prop.proofs.member.drop_from.Given as goal
 

@@ -2,7 +2,7 @@ use Rattle.std.proofs.Common.{rules, sym, ◌∙◌, FitsSigned}
 use Rattle.std.specs.Int.{w64}
 use Rattle.std.proofs.lemmas.Int.{to_z-of_z}
 use Rattle.std.proofs.lemmas.Bool.{false≢true}
-use Rattle.bool_prop.specs.Parts.{member_of}
+use Rattle.dom_store.specs.Bases.{member_of}
 use Rattle.bool_prop.proofs.Members.{value_unhad, value_inside, value_dropped}
 use Rattle.bool_prop.proofs.member.drop_outside.Goals as goal
 

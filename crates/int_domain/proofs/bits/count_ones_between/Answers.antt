@@ -1,8 +1,14 @@
-use Rattle.std.proofs.Common.{rules, arith, ◌≡◌, ◌≤◌, ◌*◌, ◌∙◌, ap}
+use Rattle.std.proofs.Common.{rules, arith, ◌≤◌, ◌*◌, ◌/◌, ◌∙◌, sym}
 use Rattle.std.proofs.lemmas.Nat.{ones-le}
 use Rattle.std.specs.Int.RustNames.{count_ones}
-use Rattle.int_domain.proofs.Words.{count_step, count_all, total, masked}
+use Rattle.int_domain.proofs.Words.{count_step, count_none, count_all}
 use Rattle.int_domain.proofs.bits.count_ones_between.Goals as goal
+
+pub loop-index-init : goal.loop-index-init
+loop-index-init c = record {
+  count = sym (count_none c.args.words.now c.args.from c.args.end (64 * (c.args.from / 64)) (omega arith));
+  small = omega arith;
+}
 
 pub loop-index-preserved : goal.loop-index-preserved
 loop-index-preserved c =
@@ -15,5 +21,4 @@ loop-index-preserved c =
 
 pub returns : goal.returns
 returns c =
-    let whole : 64 * c.loop-index.index ≡ 1024 = omega arith in
-    c.loop-index.invariant.count ∙ ap (total (masked c.args.words.now c.args.from c.args.end) 0) whole ∙ count_all c.args.words.now c.args.from c.args.end c.requires.ordered c.requires.within
+    c.loop-index.invariant.count ∙ count_all c.args.words.now c.args.from c.args.end (64 * c.loop-index.index) c.requires.ordered (omega arith)

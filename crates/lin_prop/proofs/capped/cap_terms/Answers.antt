@@ -2,7 +2,8 @@ use Rattle.std.proofs.Common.{pos}
 use Rattle.fzn_model.specs.declared.term.Term.TheVariants.{Const}
 use Rattle.dom_store.proofs.Stepping.{each_none, each_more, each_all, step_end_after}
 use Rattle.lin_prop.specs.Signed.{signed, signed_all}
-use Rattle.lin_prop.specs.Capped.{SumIsAtMost, IsLow, RisesWithin}
+use Rattle.dom_store.specs.Sums.{RisesWithin}
+use Rattle.lin_prop.specs.Capped.{SumIsAtMost, IsLow}
 use Rattle.lin_prop.proofs.Capping.{scaled_step, all_low}
 use Rattle.lin_prop.proofs.capped.cap_terms.Goals as goal
 

@@ -1,7 +1,8 @@
 use Rattle.dom_store.specs.Steps.{Step, EachTo}
 use Rattle.dom_store.specs.declared.pass.Passed.TheVariants as passed
 use Rattle.lin_prop.specs.Signed.{signed, signed_all}
-use Rattle.lin_prop.specs.Capped.{SumIsAtMost, RisesWithin}
+use Rattle.dom_store.specs.Sums.{RisesWithin}
+use Rattle.lin_prop.specs.Capped.{SumIsAtMost}
 use Rattle.lin_prop.proofs.capped.cap_terms.Given as goal
 
 abbrev pub invariant-loop-scaled : goal.invariant-loop-scaled

@@ -1,7 +1,7 @@
 use Rattle.std.proofs.Common.{length, pos}
 use Rattle.fzn_model.specs.declared.base.Base.TheVariants as base
 use Rattle.dom_store.specs.declared.pass.Passed.TheVariants as passed
-use Rattle.reif_prop.specs.Parts.{clause_of}
+use Rattle.dom_store.specs.Bases.{clause_of}
 use Rattle.reif_prop.specs.Failing.{Fails}
 use Rattle.reif_prop.specs.Denying.{FirstAre}
 use Rattle.reif_prop.proofs.Bases.{over_on}

@@ -2,8 +2,7 @@ use Rattle.std.proofs.Common.{pos}
 use Rattle.std.specs.Prelude.{slice_index_or}
 use Rattle.std.proofs.lemmas.List.{get_or_default}
 use Rattle.fzn_model.specs.declared.base.Base.TheVariants as base
-use Rattle.dom_store.specs.declared.pass.Passed.TheVariants as passed
-use Rattle.reif_prop.specs.Parts.{member_of}
+use Rattle.dom_store.specs.Bases.{member_of}
 use Rattle.reif_prop.specs.Failing.{Fails}
 use Rattle.dom_store.proofs.Stepping.{still_in}
 use Rattle.reif_prop.proofs.Members.{runs_none, runs_more, runs_end, runs_all}

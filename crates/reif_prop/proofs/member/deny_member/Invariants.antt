@@ -1,6 +1,6 @@
 use Rattle.fzn_model.specs.declared.base.Base.TheVariants as base
 use Rattle.dom_store.specs.declared.pass.Passed.TheVariants as passed
-use Rattle.reif_prop.specs.Parts.{member_of}
+use Rattle.dom_store.specs.Bases.{member_of}
 use Rattle.dom_store.specs.Steps.{Step}
 use Rattle.reif_prop.specs.Failing.{Fails}
 use Rattle.reif_prop.specs.Denying.{FirstRunsAreOff}

@@ -5,7 +5,7 @@ use Rattle.reif_prop.proofs.Members.{wide_left, each_off}
 use Rattle.reif_prop.proofs.member.drop_each.Goals as goal
 
 pub returns-then-is_wide : goal.returns-then-is_wide
-returns-then-is_wide c = wide_left c.args.x c.args.run.now c.args.store.now c.is_wide.ensures.well_formed (c.is_wide.ensures.wide c.if-is_wide.true)
+returns-then-is_wide c = wide_left c.args.x c.args.run.now c.args.store.now c.is_wide.ensures.well_formed (c.is_wide.ensures.value.0 c.if-is_wide.true)
 
 pub returns : goal.returns
 returns c =

@@ -1,10 +1,11 @@
-use Rattle.std.proofs.Common.{refl}
+use Rattle.std.proofs.Common.{length, sym, ◌∙◌}
+use Rattle.std.proofs.lemmas.Bool.{eqb-true}
 use Rattle.table_prop.specs.Among.{LowIsAmong}
-use Rattle.table_prop.proofs.Choosing.{raised_among, none_among}
+use Rattle.table_prop.proofs.Choosing.{raised_among, none_among, no_number, first_is}
 use Rattle.table_prop.proofs.among.cut_below_first.Goals as goal
 
-pub returns-in-Some : goal.returns-in-Some
-returns-in-Some c = raised_among c.args.term c.args.values.now.keys c.in-Some.first.now c.args.store.now c.cut_below.new.store c.cut_below.result c.requires.term c.in-Some.ensures.some c.cut_below.ensures.narrows
+pub returns : goal.returns
+returns c = raised_among c.args.term c.args.values.now _ c.args.store.now c.cut_below.new.store c.cut_below.result c.requires.term (first_is c.args.values.now c.first_place.result c.first_place.ensures) c.cut_below.ensures.narrows
 
-pub returns-in-None : goal.returns-in-None
-returns-in-None c = none_among (LowIsAmong c.args.term c.args.values.now.keys) c.args.term c.args.values.now.keys c.args.store.now c.requires.well_formed (c.in-None.ensures.none refl)
+pub returns-then-is_empty : goal.returns-then-is_empty
+returns-then-is_empty c = none_among (LowIsAmong c.args.term c.args.values.now) c.args.term c.args.values.now c.args.store.now c.requires.well_formed (no_number c.args.values.now (eqb-true (length c.args.values.now) 0 (sym c.is_empty.ensures ∙ c.if-is_empty.true)))

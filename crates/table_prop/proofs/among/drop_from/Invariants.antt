@@ -8,5 +8,5 @@ use Rattle.table_prop.proofs.among.drop_from.Given as goal
 abbrev pub invariant-loop-step : goal.invariant-loop-step
 invariant-loop-step l = record {
   inside : TermIn (length l.store.box) l.term;
-  moves : NarrowsTerm (IsAmong l.values.keys) (ValuesAreAmong l.term l.values.keys l.low l.step) l.term l.fn.store l.store passed.Done;
+  moves : NarrowsTerm (IsAmong l.values) (ValuesAreAmong l.term l.values l.low l.step) l.term l.fn.store l.store passed.Done;
 }

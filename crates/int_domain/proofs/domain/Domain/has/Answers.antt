@@ -20,7 +20,7 @@ returns-then-value-self c = (
 )
 
 pub is_kept-requires : goal.is_kept-requires
-is_kept-requires c = reaches_part c.self.inside.bitmap c.self.inside.low c.self.inside.high _ _ c.self.invariant.hull (omega (arith, ints)) (omega (arith, ints))
+is_kept-requires c = reaches_part c.self.inside.bitmap c.self.inside.low c.self.inside.high _ _ c.self.invariant.sound.hull (omega (arith, ints)) (omega (arith, ints))
 
 pub returns : goal.returns
 returns c =

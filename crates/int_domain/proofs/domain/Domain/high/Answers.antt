@@ -8,7 +8,7 @@ use Rattle.int_domain.proofs.domain.Domain.high.Goals as goal
 pub returns-clause-value : goal.returns-clause-value
 returns-clause-value c =
     let plain : to_z w64 (of_z w64 c.self.inside.high) ≡ c.self.inside.high = omega (arith, ints) in
-    plain ∙ sym (high_is_kept c.self.inside.bitmap c.self.inside.low c.self.inside.high c.self.invariant) ∙ ap high_of c.self.view_is
+    plain ∙ sym (high_is_kept c.self.inside.bitmap c.self.inside.low c.self.inside.high c.self.invariant.sound) ∙ ap high_of c.self.view_is
 
 pub returns-clause-kept : goal.returns-clause-kept
-returns-clause-kept c = subst IsDomain c.self.view_is (sound_is_domain c.self.inside.bitmap c.self.inside.low c.self.inside.high c.self.invariant)
+returns-clause-kept c = subst IsDomain c.self.view_is (sound_is_domain c.self.inside.bitmap c.self.inside.low c.self.inside.high c.self.invariant.sound)

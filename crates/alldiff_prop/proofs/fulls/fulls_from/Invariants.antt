@@ -1,5 +1,0 @@
-use Rattle.alldiff_prop.specs.Fulls.{AreFullsTo}
-use Rattle.alldiff_prop.proofs.fulls.fulls_from.Given as goal
-
-abbrev pub invariant-loop-place : goal.invariant-loop-place
-invariant-loop-place l = AreFullsTo l.taken l.low l.highs l.fulls.items l.place

@@ -1,9 +1,0 @@
-use Rattle.fzn_model.specs.declared.con.Con.TheVariants as con
-use Rattle.dom_store.specs.declared.pass.Passed.TheVariants as passed
-use Rattle.dom_store.specs.Steps.{Step}
-use Rattle.arith_prop.specs.Extremes.{MembersCapped}
-use Rattle.fzn_model.specs.Meaning.{Holds}
-use Rattle.arith_prop.proofs.extremes.cap_members.Given as goal
-
-abbrev pub invariant-loop-term : goal.invariant-loop-term
-invariant-loop-term l = Step (MembersCapped l.m l.terms l.term-index) (Holds (con.Greatest l.m l.terms)) l.fn.store l.store passed.Done
