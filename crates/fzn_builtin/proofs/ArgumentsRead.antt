@@ -1,7 +1,10 @@
 -- What the rows of the table need is what their shapes read: arguments that fit the needs of a row are those that its shape reads.
-use Rattle.std.proofs.Common.{◌≡◌, ℕ, zero, suc, ◌<◌, ◌≤◌, ltb, leb, Bool, true, false, ◌&&◌, List, [], ◌∷◌, length, map, get_or, refl, arith, All}
+use Rattle.std.proofs.Common.{◌≡◌, ℕ, zero, suc, ◌<◌, ◌≤◌, ltb, leb, Bool, true, false, ◌&&◌, Some, List, [], ◌∷◌, length, map, get_or, refl, arith, All}
 use Rattle.std.proofs.lemmas.Bool.{ltb-true, leb-true}
-use Rattle.std.specs.List.{list_all}
+use Rattle.std.specs.List.{list_all, position}
+use Rattle.std.specs.Str.{bytes_eq}
+use Rattle.std.proofs.lemmas.List.Quantifiers.{position-Some}
+use Rattle.std.proofs.lemmas.Option.{none-some}
 use Rattle.fzn_builtin.specs.declared.needs.Need.{Need}
 use Rattle.fzn_builtin.specs.declared.needs.Need.TheVariants as need
 use Rattle.fzn_builtin.specs.declared.arg.Arg.{Arg}
@@ -12,7 +15,7 @@ use Rattle.fzn_builtin.specs.declared.shape.Shape.{Shape}
 use Rattle.fzn_builtin.specs.declared.shape.Shape.TheVariants as shape
 use Rattle.fzn_builtin.specs.declared.table.TheConstants.{TABLE, ROWS}
 use Rattle.fzn_builtin.specs.Arguments.{FitsNeed, Fits, arg_at, IsConst, terms_at, terms_of, term_at, term_of}
-use Rattle.fzn_builtin.specs.Internals.{IsTerm, IsBoolArg, IsTerms, AreBoolArgs, IsSet, HasTerm, IsBoolAt, HasTruth, HasTerms, AreBoolsAt, HasTruths, HasSet, HasThreeTerms, HasThreeTruths, HasRelationArguments, HasArguments}
+use Rattle.fzn_builtin.specs.Reading.{ArgumentsAreRead, IsTerm, IsBoolArg, IsTerms, AreBoolArgs, IsSet, HasTerm, IsBoolAt, HasTruth, HasTerms, AreBoolsAt, HasTruths, HasSet, HasThreeTerms, HasThreeTruths, HasRelationArguments, HasArguments}
 use Rattle.fzn_builtin.specs.Builtins.{needs_of, least_of, shape_of, IsArgumentCount}
 use Rattle.fzn_builtin.specs.Constraints.{count}
 
@@ -268,3 +271,10 @@ pub has_arguments : (b : ℕ) (args : List Arg) → b < ROWS → Fits (needs_of 
 unfolding needs_of least_of shape_of
 has_arguments b args h f w =
     has_shape_arguments (shape_of b) (least_of b) (needs_of b) args (record { fits = f; enough = w.0 }) (row_asks (λ row. row.3) (λ row. row.2) (λ row. row.1.now) TABLE shape.Xor b refl h)
+
+position_below : {X : Type 0} (p : X → Bool) (xs : List X) (i : ℕ) → position p xs ≡ Some i → i < length xs
+position_below p [] i e = absurd (none-some i e)
+position_below p (x ∷ xs) i e = (position-Some p (x ∷ xs) i x e).0
+
+pub arguments_are_read : ArgumentsAreRead
+arguments_are_read = record { row = λ name. position_below (λ row. bytes_eq row.0.now name) TABLE; read = has_arguments }

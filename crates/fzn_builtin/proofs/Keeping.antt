@@ -21,7 +21,7 @@ use Rattle.fzn_builtin.specs.declared.shape.Shape.{Shape}
 use Rattle.fzn_builtin.specs.declared.shape.Shape.TheVariants as shape
 use Rattle.fzn_builtin.specs.Arguments.{arg_at, number, term_of, terms_of, set_of, term_at, terms_at, set_at}
 use Rattle.fzn_builtin.specs.Limits.{ArgKept, ArgTruth}
-use Rattle.fzn_builtin.specs.Internals.{IsBoolArg, AreBoolArgs, IsBoolAt, AreBoolsAt, HasTruth, HasTruths, HasRelationArguments, HasArguments}
+use Rattle.fzn_builtin.specs.Reading.{IsBoolArg, AreBoolArgs, IsBoolAt, AreBoolsAt, HasTruth, HasTruths, HasRelationArguments, HasArguments}
 use Rattle.fzn_builtin.specs.Constraints.{linear, difference, balance, weighed, sum, clause, member, greatest, least, task, cumulative, rows, relation_of, count, differing, constraint_of, Builds}
 
 zero_is_value : IsValue (pos 0)

@@ -1,6 +1,6 @@
 -- That the rows of the table say of their arguments what `specs/Names.antt` says.
 use Rattle.std.proofs.Common.{◌≡◌, ℕ, zero, suc, ◌<◌, ◌%◌, Bool, true, false, ◌&&◌, cond, eqb, List, [], ◌∷◌, length, map, refl, sym, ap, ◌∙◌, subst, arith, lit≤, Some, None, inl, inr, ℤ, pos, negsuc, ◌+ℤ◌, ◌*ℤ◌, ◌≤ℤ◌, ◌<ℤ◌}
-use Rattle.std.specs.Prelude.{All, Any, Contains, ◌↔◌, ◌⊎◌, option_map, codes, int_le, int_lt, int_div, int_rem, unsigned_abs}
+use Rattle.std.specs.Prelude.{All, Any, Contains, ◌↔◌, ◌⊎◌, option_map, int_le, int_lt}
 use Rattle.std.specs.List.{zip, AllByRecursion as ByRecursion}
 use Rattle.std.proofs.lemmas.Bool.{eq-eqb, ne_eqb, eqb-true}
 use Rattle.std.proofs.lemmas.Int.{ints}
@@ -13,13 +13,12 @@ use Rattle.fzn_model.specs.declared.lin.Rel.TheVariants as rel
 use Rattle.fzn_model.specs.declared.base.Base.{Base}
 use Rattle.fzn_model.specs.declared.con.Con.TheVariants as con
 use Rattle.fzn_model.specs.declared.cumulative.CumTask.{CumTask}
-use Rattle.fzn_model.specs.Meaning.{val, lin_sum, Stands, HoldsBase, Holds, HasValue, AreAtMost, AreAtLeast, AreDistinct, AreUntaken, IsFree, amount_at, usage, IsTask, AreTasks, FitsAlways, HasRow}
+use Rattle.fzn_model.specs.Meaning.{val, lin_sum, Stands, HoldsBase, Holds, HasValue, AreAtMost, AreAtLeast, AreDistinct, AreUntaken, IsFree, amount_at, usage, IsTask, AreTasks, FitsAlways}
 use Rattle.fzn_model.specs.Sets.{IsIn}
-use Rattle.fzn_builtin.specs.declared.arg.Arg.TheVariants as arg
 use Rattle.fzn_builtin.specs.Builtins.{needs_of, least_of, shape_of}
 use Rattle.fzn_builtin.specs.Arguments.{IsConst, FitsNeed, number, term_at, terms_at, set_at}
 use Rattle.fzn_builtin.specs.Constraints.{linear, difference, balance, weighed, sum, clause, member, all_true, any_true, greatest, least, task, cumulative, rows}
-use Rattle.fzn_builtin.specs.Names.{IsTrueIn, IsFalseIn, IsBoolIn, Means, Refuses, NamesMean, consts, weighted, HasValueOf, AreDifferent, used_at, FitsCapacity, IsMemberAt}
+use Rattle.fzn_builtin.specs.Names.{IsTrueIn, IsFalseIn, IsBoolIn, NamesMean, consts, weighted, HasValueOf, AreDifferent, used_at, FitsCapacity}
 
 -- equivalences
 same : {P : Type 0} → P ↔ P
@@ -277,340 +276,73 @@ no_rows : (zs : List Term) → rows [] zs ≡ None
 unfolding rows
 no_rows zs = refl
 
-none_greatest : (m : Term) → greatest m [] ≡ None
-unfolding greatest
-none_greatest m = refl
-
-none_least : (m : Term) → least m [] ≡ None
-unfolding least
-none_least m = refl
-
-int_eq_means : (a b : Term) → Means (codes "int_eq") (arg.Int a ∷ arg.Int b ∷ []) (λ θ. val a θ ≡ val b θ)
-unfolding needs_of least_of shape_of FitsNeed term_at terms_at set_at
-int_eq_means a b = record { number = 0; named = refl; fits = (tt, (tt, tt)); whole = (lit≤ tt, lit≤ tt); constraint = con.Base (linear rel.Eq (difference a b) (pos 0)); there = refl; holds = λ θ bs. differ rel.Eq a b θ }
-
-int_ne_means : (a b : Term) → Means (codes "int_ne") (arg.Int a ∷ arg.Int b ∷ []) (λ θ. val a θ ≡ val b θ → ⊥)
-unfolding needs_of least_of shape_of FitsNeed term_at terms_at set_at
-int_ne_means a b = record { number = 1; named = refl; fits = (tt, (tt, tt)); whole = (lit≤ tt, lit≤ tt); constraint = con.Base (linear rel.Ne (difference a b) (pos 0)); there = refl; holds = λ θ bs. differ rel.Ne a b θ }
-
-int_le_means : (a b : Term) → Means (codes "int_le") (arg.Int a ∷ arg.Int b ∷ []) (λ θ. val a θ ≤ℤ val b θ)
-unfolding needs_of least_of shape_of FitsNeed term_at terms_at set_at
-int_le_means a b = record { number = 2; named = refl; fits = (tt, (tt, tt)); whole = (lit≤ tt, lit≤ tt); constraint = con.Base (linear rel.Le (difference a b) (pos 0)); there = refl; holds = λ θ bs. differ rel.Le a b θ }
-
-int_lt_means : (a b : Term) → Means (codes "int_lt") (arg.Int a ∷ arg.Int b ∷ []) (λ θ. val a θ <ℤ val b θ)
-unfolding needs_of least_of shape_of FitsNeed term_at terms_at set_at
-int_lt_means a b = record { number = 3; named = refl; fits = (tt, (tt, tt)); whole = (lit≤ tt, lit≤ tt); constraint = con.Base (linear rel.Le (difference a b) (negsuc 0)); there = refl; holds = λ θ bs. below a b θ }
-
-bool_eq_means : (p q : Term) → Means (codes "bool_eq") (arg.Bool p ∷ arg.Bool q ∷ []) (λ θ. val p θ ≡ val q θ)
-unfolding needs_of least_of shape_of FitsNeed term_at terms_at set_at
-bool_eq_means p q = record { number = 4; named = refl; fits = (tt, (tt, tt)); whole = (lit≤ tt, lit≤ tt); constraint = con.Base (linear rel.Eq (difference p q) (pos 0)); there = refl; holds = λ θ bs. differ rel.Eq p q θ }
-
-bool_le_means : (p q : Term) → Means (codes "bool_le") (arg.Bool p ∷ arg.Bool q ∷ []) (λ θ. val p θ ≤ℤ val q θ)
-unfolding needs_of least_of shape_of FitsNeed term_at terms_at set_at
-bool_le_means p q = record { number = 5; named = refl; fits = (tt, (tt, tt)); whole = (lit≤ tt, lit≤ tt); constraint = con.Base (linear rel.Le (difference p q) (pos 0)); there = refl; holds = λ θ bs. differ rel.Le p q θ }
-
-bool_lt_means : (p q : Term) → Means (codes "bool_lt") (arg.Bool p ∷ arg.Bool q ∷ []) (λ θ. val p θ <ℤ val q θ)
-unfolding needs_of least_of shape_of FitsNeed term_at terms_at set_at
-bool_lt_means p q = record { number = 6; named = refl; fits = (tt, (tt, tt)); whole = (lit≤ tt, lit≤ tt); constraint = con.Base (linear rel.Le (difference p q) (negsuc 0)); there = refl; holds = λ θ bs. below p q θ }
-
-bool2int_means : (p a : Term) → Means (codes "bool2int") (arg.Bool p ∷ arg.Int a ∷ []) (λ θ. val p θ ≡ val a θ)
-unfolding needs_of least_of shape_of FitsNeed term_at terms_at set_at
-bool2int_means p a = record { number = 7; named = refl; fits = (tt, (tt, tt)); whole = (lit≤ tt, lit≤ tt); constraint = con.Base (linear rel.Eq (difference p a) (pos 0)); there = refl; holds = λ θ bs. differ rel.Eq p a θ }
-
-bool_not_means : (p q : Term) → Means (codes "bool_not") (arg.Bool p ∷ arg.Bool q ∷ []) (λ θ. val p θ ≡ val q θ → ⊥)
-unfolding needs_of least_of shape_of FitsNeed term_at terms_at set_at
-bool_not_means p q = record { number = 8; named = refl; fits = (tt, (tt, tt)); whole = (lit≤ tt, lit≤ tt); constraint = con.Base (linear rel.Ne (difference p q) (pos 0)); there = refl; holds = λ θ bs. differ rel.Ne p q θ }
-
-bool_xor_means : (p q : Term) → Means (codes "bool_xor") (arg.Bool p ∷ arg.Bool q ∷ []) (λ θ. val p θ ≡ val q θ → ⊥)
-unfolding needs_of least_of shape_of FitsNeed term_at terms_at set_at
-bool_xor_means p q = record { number = 9; named = refl; fits = (tt, (tt, tt)); whole = (lit≤ tt, lit≤ tt); constraint = con.Base (linear rel.Ne (difference p q) (pos 0)); there = refl; holds = λ θ bs. differ rel.Ne p q θ }
-
-bool_xor_reif_means : (p q r : Term) → Means (codes "bool_xor") (arg.Bool p ∷ arg.Bool q ∷ arg.Bool r ∷ []) (λ θ. (val p θ ≡ val q θ → ⊥) ↔ IsTrueIn θ r)
-unfolding needs_of least_of shape_of FitsNeed term_at terms_at set_at
-bool_xor_reif_means p q r = record { number = 9; named = refl; fits = (tt, (tt, (tt, tt))); whole = (lit≤ tt, lit≤ tt); constraint = con.Reif (linear rel.Ne (difference p q) (pos 0)) r true; there = refl; holds = λ θ bs. iff_iff (differ rel.Ne p q θ) }
-
-int_lin_eq_means : (cs : List ℤ) (xs : List Term) (k : ℤ) → length cs ≡ length xs → Means (codes "int_lin_eq") (arg.Ints (consts cs) ∷ arg.Ints xs ∷ arg.Int (Const k) ∷ []) (λ θ. weighted cs xs θ ≡ k)
-unfolding needs_of least_of shape_of FitsNeed term_at terms_at set_at
-int_lin_eq_means cs xs k h = record { number = 10; named = refl; fits = (are_consts cs, (tt, (tt, tt))); whole = (lit≤ tt, lit≤ tt); constraint = con.Base (summed rel.Eq cs xs k); there = ap (option_map con.Base) (sum_there rel.Eq cs xs k h); holds = λ θ bs. stands rel.Eq cs xs k θ }
-
-int_lin_le_means : (cs : List ℤ) (xs : List Term) (k : ℤ) → length cs ≡ length xs → Means (codes "int_lin_le") (arg.Ints (consts cs) ∷ arg.Ints xs ∷ arg.Int (Const k) ∷ []) (λ θ. weighted cs xs θ ≤ℤ k)
-unfolding needs_of least_of shape_of FitsNeed term_at terms_at set_at
-int_lin_le_means cs xs k h = record { number = 11; named = refl; fits = (are_consts cs, (tt, (tt, tt))); whole = (lit≤ tt, lit≤ tt); constraint = con.Base (summed rel.Le cs xs k); there = ap (option_map con.Base) (sum_there rel.Le cs xs k h); holds = λ θ bs. stands rel.Le cs xs k θ }
-
-int_lin_ne_means : (cs : List ℤ) (xs : List Term) (k : ℤ) → length cs ≡ length xs → Means (codes "int_lin_ne") (arg.Ints (consts cs) ∷ arg.Ints xs ∷ arg.Int (Const k) ∷ []) (λ θ. weighted cs xs θ ≡ k → ⊥)
-unfolding needs_of least_of shape_of FitsNeed term_at terms_at set_at
-int_lin_ne_means cs xs k h = record { number = 12; named = refl; fits = (are_consts cs, (tt, (tt, tt))); whole = (lit≤ tt, lit≤ tt); constraint = con.Base (summed rel.Ne cs xs k); there = ap (option_map con.Base) (sum_there rel.Ne cs xs k h); holds = λ θ bs. stands rel.Ne cs xs k θ }
-
-int_lin_eq_refuses : (cs xs : List Term) (k : Term) → (length cs ≡ length xs → ⊥) → Refuses (codes "int_lin_eq") (arg.Ints cs ∷ arg.Ints xs ∷ arg.Int k ∷ [])
-unfolding shape_of term_at terms_at
-int_lin_eq_refuses cs xs k h = record { number = 10; named = refl; refused = ap (option_map (con.Base)) (sum_none rel.Eq cs xs (number k) h) }
-
-int_lin_le_refuses : (cs xs : List Term) (k : Term) → (length cs ≡ length xs → ⊥) → Refuses (codes "int_lin_le") (arg.Ints cs ∷ arg.Ints xs ∷ arg.Int k ∷ [])
-unfolding shape_of term_at terms_at
-int_lin_le_refuses cs xs k h = record { number = 11; named = refl; refused = ap (option_map (con.Base)) (sum_none rel.Le cs xs (number k) h) }
-
-int_lin_ne_refuses : (cs xs : List Term) (k : Term) → (length cs ≡ length xs → ⊥) → Refuses (codes "int_lin_ne") (arg.Ints cs ∷ arg.Ints xs ∷ arg.Int k ∷ [])
-unfolding shape_of term_at terms_at
-int_lin_ne_refuses cs xs k h = record { number = 12; named = refl; refused = ap (option_map (con.Base)) (sum_none rel.Ne cs xs (number k) h) }
-
-int_eq_reif_means : (a b r : Term) → Means (codes "int_eq_reif") (arg.Int a ∷ arg.Int b ∷ arg.Bool r ∷ []) (λ θ. (val a θ ≡ val b θ) ↔ IsTrueIn θ r)
-unfolding needs_of least_of shape_of FitsNeed term_at terms_at set_at
-int_eq_reif_means a b r = record { number = 13; named = refl; fits = (tt, (tt, (tt, tt))); whole = (lit≤ tt, lit≤ tt); constraint = con.Reif (linear rel.Eq (difference a b) (pos 0)) r true; there = refl; holds = λ θ bs. iff_iff (differ rel.Eq a b θ) }
-
-int_ne_reif_means : (a b r : Term) → Means (codes "int_ne_reif") (arg.Int a ∷ arg.Int b ∷ arg.Bool r ∷ []) (λ θ. (val a θ ≡ val b θ → ⊥) ↔ IsTrueIn θ r)
-unfolding needs_of least_of shape_of FitsNeed term_at terms_at set_at
-int_ne_reif_means a b r = record { number = 14; named = refl; fits = (tt, (tt, (tt, tt))); whole = (lit≤ tt, lit≤ tt); constraint = con.Reif (linear rel.Ne (difference a b) (pos 0)) r true; there = refl; holds = λ θ bs. iff_iff (differ rel.Ne a b θ) }
-
-int_le_reif_means : (a b r : Term) → Means (codes "int_le_reif") (arg.Int a ∷ arg.Int b ∷ arg.Bool r ∷ []) (λ θ. (val a θ ≤ℤ val b θ) ↔ IsTrueIn θ r)
-unfolding needs_of least_of shape_of FitsNeed term_at terms_at set_at
-int_le_reif_means a b r = record { number = 15; named = refl; fits = (tt, (tt, (tt, tt))); whole = (lit≤ tt, lit≤ tt); constraint = con.Reif (linear rel.Le (difference a b) (pos 0)) r true; there = refl; holds = λ θ bs. iff_iff (differ rel.Le a b θ) }
-
-int_lt_reif_means : (a b r : Term) → Means (codes "int_lt_reif") (arg.Int a ∷ arg.Int b ∷ arg.Bool r ∷ []) (λ θ. (val a θ <ℤ val b θ) ↔ IsTrueIn θ r)
-unfolding needs_of least_of shape_of FitsNeed term_at terms_at set_at
-int_lt_reif_means a b r = record { number = 16; named = refl; fits = (tt, (tt, (tt, tt))); whole = (lit≤ tt, lit≤ tt); constraint = con.Reif (linear rel.Le (difference a b) (negsuc 0)) r true; there = refl; holds = λ θ bs. iff_iff (below a b θ) }
-
-bool_eq_reif_means : (p q r : Term) → Means (codes "bool_eq_reif") (arg.Bool p ∷ arg.Bool q ∷ arg.Bool r ∷ []) (λ θ. (val p θ ≡ val q θ) ↔ IsTrueIn θ r)
-unfolding needs_of least_of shape_of FitsNeed term_at terms_at set_at
-bool_eq_reif_means p q r = record { number = 17; named = refl; fits = (tt, (tt, (tt, tt))); whole = (lit≤ tt, lit≤ tt); constraint = con.Reif (linear rel.Eq (difference p q) (pos 0)) r true; there = refl; holds = λ θ bs. iff_iff (differ rel.Eq p q θ) }
-
-bool_le_reif_means : (p q r : Term) → Means (codes "bool_le_reif") (arg.Bool p ∷ arg.Bool q ∷ arg.Bool r ∷ []) (λ θ. (val p θ ≤ℤ val q θ) ↔ IsTrueIn θ r)
-unfolding needs_of least_of shape_of FitsNeed term_at terms_at set_at
-bool_le_reif_means p q r = record { number = 18; named = refl; fits = (tt, (tt, (tt, tt))); whole = (lit≤ tt, lit≤ tt); constraint = con.Reif (linear rel.Le (difference p q) (pos 0)) r true; there = refl; holds = λ θ bs. iff_iff (differ rel.Le p q θ) }
-
-bool_lt_reif_means : (p q r : Term) → Means (codes "bool_lt_reif") (arg.Bool p ∷ arg.Bool q ∷ arg.Bool r ∷ []) (λ θ. (val p θ <ℤ val q θ) ↔ IsTrueIn θ r)
-unfolding needs_of least_of shape_of FitsNeed term_at terms_at set_at
-bool_lt_reif_means p q r = record { number = 19; named = refl; fits = (tt, (tt, (tt, tt))); whole = (lit≤ tt, lit≤ tt); constraint = con.Reif (linear rel.Le (difference p q) (negsuc 0)) r true; there = refl; holds = λ θ bs. iff_iff (below p q θ) }
-
-int_lin_eq_reif_means : (cs : List ℤ) (xs : List Term) (k : ℤ) (r : Term) → length cs ≡ length xs → Means (codes "int_lin_eq_reif") (arg.Ints (consts cs) ∷ arg.Ints xs ∷ arg.Int (Const k) ∷ arg.Bool r ∷ []) (λ θ. (weighted cs xs θ ≡ k) ↔ IsTrueIn θ r)
-unfolding needs_of least_of shape_of FitsNeed term_at terms_at set_at
-int_lin_eq_reif_means cs xs k r h = record { number = 20; named = refl; fits = (are_consts cs, (tt, (tt, (tt, tt)))); whole = (lit≤ tt, lit≤ tt); constraint = con.Reif (summed rel.Eq cs xs k) r true; there = ap (option_map (λ b. con.Reif b r true)) (sum_there rel.Eq cs xs k h); holds = λ θ bs. iff_iff (stands rel.Eq cs xs k θ) }
-
-int_lin_le_reif_means : (cs : List ℤ) (xs : List Term) (k : ℤ) (r : Term) → length cs ≡ length xs → Means (codes "int_lin_le_reif") (arg.Ints (consts cs) ∷ arg.Ints xs ∷ arg.Int (Const k) ∷ arg.Bool r ∷ []) (λ θ. (weighted cs xs θ ≤ℤ k) ↔ IsTrueIn θ r)
-unfolding needs_of least_of shape_of FitsNeed term_at terms_at set_at
-int_lin_le_reif_means cs xs k r h = record { number = 21; named = refl; fits = (are_consts cs, (tt, (tt, (tt, tt)))); whole = (lit≤ tt, lit≤ tt); constraint = con.Reif (summed rel.Le cs xs k) r true; there = ap (option_map (λ b. con.Reif b r true)) (sum_there rel.Le cs xs k h); holds = λ θ bs. iff_iff (stands rel.Le cs xs k θ) }
-
-int_lin_ne_reif_means : (cs : List ℤ) (xs : List Term) (k : ℤ) (r : Term) → length cs ≡ length xs → Means (codes "int_lin_ne_reif") (arg.Ints (consts cs) ∷ arg.Ints xs ∷ arg.Int (Const k) ∷ arg.Bool r ∷ []) (λ θ. (weighted cs xs θ ≡ k → ⊥) ↔ IsTrueIn θ r)
-unfolding needs_of least_of shape_of FitsNeed term_at terms_at set_at
-int_lin_ne_reif_means cs xs k r h = record { number = 22; named = refl; fits = (are_consts cs, (tt, (tt, (tt, tt)))); whole = (lit≤ tt, lit≤ tt); constraint = con.Reif (summed rel.Ne cs xs k) r true; there = ap (option_map (λ b. con.Reif b r true)) (sum_there rel.Ne cs xs k h); holds = λ θ bs. iff_iff (stands rel.Ne cs xs k θ) }
-
-int_lin_eq_reif_refuses : (cs xs : List Term) (k r : Term) → (length cs ≡ length xs → ⊥) → Refuses (codes "int_lin_eq_reif") (arg.Ints cs ∷ arg.Ints xs ∷ arg.Int k ∷ arg.Bool r ∷ [])
-unfolding shape_of term_at terms_at
-int_lin_eq_reif_refuses cs xs k r h = record { number = 20; named = refl; refused = ap (option_map (λ b. con.Reif b r true)) (sum_none rel.Eq cs xs (number k) h) }
-
-int_lin_le_reif_refuses : (cs xs : List Term) (k r : Term) → (length cs ≡ length xs → ⊥) → Refuses (codes "int_lin_le_reif") (arg.Ints cs ∷ arg.Ints xs ∷ arg.Int k ∷ arg.Bool r ∷ [])
-unfolding shape_of term_at terms_at
-int_lin_le_reif_refuses cs xs k r h = record { number = 21; named = refl; refused = ap (option_map (λ b. con.Reif b r true)) (sum_none rel.Le cs xs (number k) h) }
-
-int_lin_ne_reif_refuses : (cs xs : List Term) (k r : Term) → (length cs ≡ length xs → ⊥) → Refuses (codes "int_lin_ne_reif") (arg.Ints cs ∷ arg.Ints xs ∷ arg.Int k ∷ arg.Bool r ∷ [])
-unfolding shape_of term_at terms_at
-int_lin_ne_reif_refuses cs xs k r h = record { number = 22; named = refl; refused = ap (option_map (λ b. con.Reif b r true)) (sum_none rel.Ne cs xs (number k) h) }
-
-bool_and_means : (p q r : Term) → Means (codes "bool_and") (arg.Bool p ∷ arg.Bool q ∷ arg.Bool r ∷ []) (λ θ. (IsTrueIn θ p × IsTrueIn θ q) ↔ IsTrueIn θ r)
-unfolding needs_of least_of shape_of FitsNeed term_at terms_at set_at
-bool_and_means p q r = record { number = 23; named = refl; fits = (tt, (tt, (tt, tt))); whole = (lit≤ tt, lit≤ tt); constraint = all_true (p ∷ q ∷ []) r; there = refl; holds = λ θ bs. both (all_true_is (p ∷ q ∷ []) r θ ((all_two (IsBoolIn θ) p q).1 (bs.0, bs.1.0)) bs.1.1.0) (iff_iff (all_two (IsTrueIn θ) p q)) }
-
-array_bool_and_means : (ps : List Term) (r : Term) → Means (codes "array_bool_and") (arg.Bools ps ∷ arg.Bool r ∷ []) (λ θ. All (IsTrueIn θ) ps ↔ IsTrueIn θ r)
-unfolding needs_of least_of shape_of FitsNeed term_at terms_at set_at
-array_bool_and_means ps r = record { number = 24; named = refl; fits = (tt, (tt, tt)); whole = (lit≤ tt, lit≤ tt); constraint = all_true ps r; there = refl; holds = λ θ bs. all_true_is ps r θ bs.0 bs.1.0 }
-
-bool_or_means : (p q r : Term) → Means (codes "bool_or") (arg.Bool p ∷ arg.Bool q ∷ arg.Bool r ∷ []) (λ θ. (IsTrueIn θ p ⊎ IsTrueIn θ q) ↔ IsTrueIn θ r)
-unfolding needs_of least_of shape_of FitsNeed term_at terms_at set_at
-bool_or_means p q r = record { number = 25; named = refl; fits = (tt, (tt, (tt, tt))); whole = (lit≤ tt, lit≤ tt); constraint = any_true (p ∷ q ∷ []) r; there = refl; holds = λ θ bs. iff_iff (both (any_true_is (p ∷ q ∷ []) θ) (of_two (IsTrueIn θ) p q, two_of (IsTrueIn θ) p q)) }
-
-array_bool_or_means : (ps : List Term) (r : Term) → Means (codes "array_bool_or") (arg.Bools ps ∷ arg.Bool r ∷ []) (λ θ. Any (IsTrueIn θ) ps ↔ IsTrueIn θ r)
-unfolding needs_of least_of shape_of FitsNeed term_at terms_at set_at
-array_bool_or_means ps r = record { number = 26; named = refl; fits = (tt, (tt, tt)); whole = (lit≤ tt, lit≤ tt); constraint = any_true ps r; there = refl; holds = λ θ bs. iff_iff (any_true_is ps θ) }
-
-bool_clause_means : (ps qs : List Term) → Means (codes "bool_clause") (arg.Bools ps ∷ arg.Bools qs ∷ []) (λ θ. Any (IsTrueIn θ) ps ⊎ Any (IsFalseIn θ) qs)
-unfolding needs_of least_of shape_of FitsNeed term_at terms_at set_at
-bool_clause_means ps qs = record { number = 27; named = refl; fits = (tt, (tt, tt)); whole = (lit≤ tt, lit≤ tt); constraint = con.Base (clause ps qs); there = refl; holds = λ θ bs. clause_is ps qs θ }
-
-bool_clause_reif_means : (ps qs : List Term) (r : Term) → Means (codes "bool_clause_reif") (arg.Bools ps ∷ arg.Bools qs ∷ arg.Bool r ∷ []) (λ θ. (Any (IsTrueIn θ) ps ⊎ Any (IsFalseIn θ) qs) ↔ IsTrueIn θ r)
-unfolding needs_of least_of shape_of FitsNeed term_at terms_at set_at
-bool_clause_reif_means ps qs r = record { number = 28; named = refl; fits = (tt, (tt, (tt, tt))); whole = (lit≤ tt, lit≤ tt); constraint = con.Reif (clause ps qs) r true; there = refl; holds = λ θ bs. iff_iff (clause_is ps qs θ) }
-
-set_in_means : (x : Term) (s : List (ℤ × ℤ)) → Means (codes "set_in") (arg.Int x ∷ arg.Set s ∷ []) (λ θ. IsIn s (val x θ))
-unfolding needs_of least_of shape_of FitsNeed term_at terms_at set_at
-set_in_means x s = record { number = 29; named = refl; fits = (tt, (tt, tt)); whole = (lit≤ tt, lit≤ tt); constraint = con.Base (member x s); there = refl; holds = λ θ bs. member_is x s θ }
-
-set_in_reif_means : (x : Term) (s : List (ℤ × ℤ)) (r : Term) → Means (codes "set_in_reif") (arg.Int x ∷ arg.Set s ∷ arg.Bool r ∷ []) (λ θ. IsIn s (val x θ) ↔ IsTrueIn θ r)
-unfolding needs_of least_of shape_of FitsNeed term_at terms_at set_at
-set_in_reif_means x s r = record { number = 30; named = refl; fits = (tt, (tt, (tt, tt))); whole = (lit≤ tt, lit≤ tt); constraint = con.Reif (member x s) r true; there = refl; holds = λ θ bs. iff_iff (member_is x s θ) }
-
-int_plus_means : (a b c : Term) → Means (codes "int_plus") (arg.Int a ∷ arg.Int b ∷ arg.Int c ∷ []) (λ θ. val a θ +ℤ val b θ ≡ val c θ)
-unfolding needs_of least_of shape_of FitsNeed term_at terms_at set_at
-int_plus_means a b c = record { number = 31; named = refl; fits = (tt, (tt, (tt, tt))); whole = (lit≤ tt, lit≤ tt); constraint = con.Base (linear rel.Eq (balance a b c) (pos 0)); there = refl; holds = λ θ bs. balanced a b c θ }
-
-int_times_means : (a b c : Term) → Means (codes "int_times") (arg.Int a ∷ arg.Int b ∷ arg.Int c ∷ []) (λ θ. val a θ *ℤ val b θ ≡ val c θ)
-unfolding needs_of least_of shape_of FitsNeed term_at terms_at set_at
-int_times_means a b c = record { number = 32; named = refl; fits = (tt, (tt, (tt, tt))); whole = (lit≤ tt, lit≤ tt); constraint = con.Times a b c; there = refl; holds = λ θ bs. same }
-
-int_div_means : (a b c : Term) → Means (codes "int_div") (arg.Int a ∷ arg.Int b ∷ arg.Int c ∷ []) (λ θ. (val b θ ≡ pos 0 → ⊥) × (val c θ ≡ int_div (val a θ) (val b θ)))
-unfolding needs_of least_of shape_of FitsNeed term_at terms_at set_at
-int_div_means a b c = record { number = 33; named = refl; fits = (tt, (tt, (tt, tt))); whole = (lit≤ tt, lit≤ tt); constraint = con.Div a b c; there = refl; holds = λ θ bs. same }
-
-int_mod_means : (a b c : Term) → Means (codes "int_mod") (arg.Int a ∷ arg.Int b ∷ arg.Int c ∷ []) (λ θ. (val b θ ≡ pos 0 → ⊥) × (val c θ ≡ int_rem (val a θ) (val b θ)))
-unfolding needs_of least_of shape_of FitsNeed term_at terms_at set_at
-int_mod_means a b c = record { number = 34; named = refl; fits = (tt, (tt, (tt, tt))); whole = (lit≤ tt, lit≤ tt); constraint = con.Mod a b c; there = refl; holds = λ θ bs. same }
-
-int_abs_means : (a b : Term) → Means (codes "int_abs") (arg.Int a ∷ arg.Int b ∷ []) (λ θ. val b θ ≡ pos (unsigned_abs (val a θ)))
-unfolding needs_of least_of shape_of FitsNeed term_at terms_at set_at
-int_abs_means a b = record { number = 35; named = refl; fits = (tt, (tt, tt)); whole = (lit≤ tt, lit≤ tt); constraint = con.Abs a b; there = refl; holds = λ θ bs. same }
-
-int_max_means : (a b c : Term) → Means (codes "int_max") (arg.Int a ∷ arg.Int b ∷ arg.Int c ∷ []) (λ θ. HasValueOf θ (a ∷ b ∷ []) c × (val a θ ≤ℤ val c θ) × (val b θ ≤ℤ val c θ))
-unfolding needs_of least_of shape_of FitsNeed term_at terms_at set_at greatest
-int_max_means a b c = record { number = 36; named = refl; fits = (tt, (tt, (tt, tt))); whole = (lit≤ tt, lit≤ tt); constraint = con.Greatest c (a ∷ b ∷ []); there = refl; holds = λ θ bs. both (greatest_is c (a ∷ b ∷ []) θ) (with_both (all_two (λ x. val x θ ≤ℤ val c θ) a b)) }
-
-int_min_means : (a b c : Term) → Means (codes "int_min") (arg.Int a ∷ arg.Int b ∷ arg.Int c ∷ []) (λ θ. HasValueOf θ (a ∷ b ∷ []) c × (val c θ ≤ℤ val a θ) × (val c θ ≤ℤ val b θ))
-unfolding needs_of least_of shape_of FitsNeed term_at terms_at set_at least
-int_min_means a b c = record { number = 37; named = refl; fits = (tt, (tt, (tt, tt))); whole = (lit≤ tt, lit≤ tt); constraint = con.Least c (a ∷ b ∷ []); there = refl; holds = λ θ bs. both (least_is c (a ∷ b ∷ []) θ) (with_both (all_two (λ x. val c θ ≤ℤ val x θ) a b)) }
-
-array_int_maximum_means : (m : Term) (xs : List Term) → 0 < length xs → Means (codes "array_int_maximum") (arg.Int m ∷ arg.Ints xs ∷ []) (λ θ. HasValueOf θ xs m × All (λ x. val x θ ≤ℤ val m θ) xs)
-unfolding needs_of least_of shape_of FitsNeed term_at terms_at set_at
-array_int_maximum_means m xs h = record { number = 38; named = refl; fits = (tt, (tt, tt)); whole = (lit≤ tt, lit≤ tt); constraint = con.Greatest m xs; there = greatest_there m xs h; holds = λ θ bs. greatest_is m xs θ }
-
-array_int_minimum_means : (m : Term) (xs : List Term) → 0 < length xs → Means (codes "array_int_minimum") (arg.Int m ∷ arg.Ints xs ∷ []) (λ θ. HasValueOf θ xs m × All (λ x. val m θ ≤ℤ val x θ) xs)
-unfolding needs_of least_of shape_of FitsNeed term_at terms_at set_at
-array_int_minimum_means m xs h = record { number = 39; named = refl; fits = (tt, (tt, tt)); whole = (lit≤ tt, lit≤ tt); constraint = con.Least m xs; there = least_there m xs h; holds = λ θ bs. least_is m xs θ }
-
-array_int_maximum_refuses : (m : Term) → Refuses (codes "array_int_maximum") (arg.Int m ∷ arg.Ints [] ∷ [])
-unfolding shape_of term_at terms_at
-array_int_maximum_refuses m = record { number = 38; named = refl; refused = none_greatest m }
-
-array_int_minimum_refuses : (m : Term) → Refuses (codes "array_int_minimum") (arg.Int m ∷ arg.Ints [] ∷ [])
-unfolding shape_of term_at terms_at
-array_int_minimum_refuses m = record { number = 39; named = refl; refused = none_least m }
-
-array_int_element_means : (i : Term) (zs : List ℤ) (c : Term) → Means (codes "array_int_element") (arg.Int i ∷ arg.Ints (consts zs) ∷ arg.Int c ∷ []) (λ θ. IsMemberAt θ i (consts zs) c)
-unfolding needs_of least_of shape_of FitsNeed term_at terms_at set_at
-array_int_element_means i zs c = record { number = 40; named = refl; fits = (tt, (are_consts zs, (tt, tt))); whole = (lit≤ tt, lit≤ tt); constraint = con.Element i (consts zs) c; there = refl; holds = λ θ bs. same }
-
-array_var_int_element_means : (i : Term) (xs : List Term) (c : Term) → Means (codes "array_var_int_element") (arg.Int i ∷ arg.Ints xs ∷ arg.Int c ∷ []) (λ θ. IsMemberAt θ i xs c)
-unfolding needs_of least_of shape_of FitsNeed term_at terms_at set_at
-array_var_int_element_means i xs c = record { number = 41; named = refl; fits = (tt, (tt, (tt, tt))); whole = (lit≤ tt, lit≤ tt); constraint = con.Element i (xs) c; there = refl; holds = λ θ bs. same }
-
-array_bool_element_means : (i : Term) (zs : List ℤ) (p : Term) → Means (codes "array_bool_element") (arg.Int i ∷ arg.Bools (consts zs) ∷ arg.Bool p ∷ []) (λ θ. IsMemberAt θ i (consts zs) p)
-unfolding needs_of least_of shape_of FitsNeed term_at terms_at set_at
-array_bool_element_means i zs p = record { number = 42; named = refl; fits = (tt, (are_consts zs, (tt, tt))); whole = (lit≤ tt, lit≤ tt); constraint = con.Element i (consts zs) p; there = refl; holds = λ θ bs. same }
-
-array_var_bool_element_means : (i : Term) (ps : List Term) (p : Term) → Means (codes "array_var_bool_element") (arg.Int i ∷ arg.Bools ps ∷ arg.Bool p ∷ []) (λ θ. IsMemberAt θ i ps p)
-unfolding needs_of least_of shape_of FitsNeed term_at terms_at set_at
-array_var_bool_element_means i ps p = record { number = 43; named = refl; fits = (tt, (tt, (tt, tt))); whole = (lit≤ tt, lit≤ tt); constraint = con.Element i (ps) p; there = refl; holds = λ θ bs. same }
-
-fzn_all_different_int_means : (xs : List Term) → Means (codes "fzn_all_different_int") (arg.Ints xs ∷ []) (λ θ. AreDifferent θ xs)
-unfolding needs_of least_of shape_of FitsNeed term_at terms_at set_at
-fzn_all_different_int_means xs = record { number = 44; named = refl; fits = (tt, tt); whole = (lit≤ tt, lit≤ tt); constraint = con.AllDiffExcept xs []; there = refl; holds = λ θ bs. different_is xs θ }
-
-all_different_int_means : (xs : List Term) → Means (codes "all_different_int") (arg.Ints xs ∷ []) (λ θ. AreDifferent θ xs)
-unfolding needs_of least_of shape_of FitsNeed term_at terms_at set_at
-all_different_int_means xs = record { number = 45; named = refl; fits = (tt, tt); whole = (lit≤ tt, lit≤ tt); constraint = con.AllDiffExcept xs []; there = refl; holds = λ θ bs. different_is xs θ }
-
-fzn_cumulative_means : (ss ds rs : List Term) (b : Term) → length ss ≡ length ds → length ss ≡ length rs → Means (codes "fzn_cumulative") (arg.Ints ss ∷ arg.Ints ds ∷ arg.Ints rs ∷ arg.Int b ∷ []) (λ θ. FitsCapacity θ ss ds rs b)
-unfolding needs_of least_of shape_of FitsNeed term_at terms_at set_at
-fzn_cumulative_means ss ds rs b d e = record { number = 46; named = refl; fits = (tt, (tt, (tt, (tt, tt)))); whole = (lit≤ tt, lit≤ tt); constraint = con.CumulUsed (tasks_of ss ds rs) [] b; there = cumulative_there ss ds rs b d e; holds = λ θ bs. capacity_is ss ds rs b θ d e }
-
-cumulative_means : (ss ds rs : List Term) (b : Term) → length ss ≡ length ds → length ss ≡ length rs → Means (codes "cumulative") (arg.Ints ss ∷ arg.Ints ds ∷ arg.Ints rs ∷ arg.Int b ∷ []) (λ θ. FitsCapacity θ ss ds rs b)
-unfolding needs_of least_of shape_of FitsNeed term_at terms_at set_at
-cumulative_means ss ds rs b d e = record { number = 47; named = refl; fits = (tt, (tt, (tt, (tt, tt)))); whole = (lit≤ tt, lit≤ tt); constraint = con.CumulUsed (tasks_of ss ds rs) [] b; there = cumulative_there ss ds rs b d e; holds = λ θ bs. capacity_is ss ds rs b θ d e }
-
-fzn_cumulative_refuses : (ss ds rs : List Term) (b : Term) → ((length ss ≡ length ds) × (length ss ≡ length rs) → ⊥) → Refuses (codes "fzn_cumulative") (arg.Ints ss ∷ arg.Ints ds ∷ arg.Ints rs ∷ arg.Int b ∷ [])
-unfolding shape_of term_at terms_at
-fzn_cumulative_refuses ss ds rs b h = record { number = 46; named = refl; refused = cumulative_none ss ds rs b h }
-
-cumulative_refuses : (ss ds rs : List Term) (b : Term) → ((length ss ≡ length ds) × (length ss ≡ length rs) → ⊥) → Refuses (codes "cumulative") (arg.Ints ss ∷ arg.Ints ds ∷ arg.Ints rs ∷ arg.Int b ∷ [])
-unfolding shape_of term_at terms_at
-cumulative_refuses ss ds rs b h = record { number = 47; named = refl; refused = cumulative_none ss ds rs b h }
-
-fzn_table_int_means : (x : Term) (xs : List Term) (zs : List ℤ) → length zs % length (x ∷ xs) ≡ 0 → Means (codes "fzn_table_int") (arg.Ints (x ∷ xs) ∷ arg.Ints (consts zs) ∷ []) (λ θ. HasRow (x ∷ xs) zs θ)
-unfolding needs_of least_of shape_of FitsNeed term_at terms_at set_at
-fzn_table_int_means x xs zs h = record { number = 48; named = refl; fits = (tt, (are_consts zs, tt)); whole = (lit≤ tt, lit≤ tt); constraint = con.Table (x ∷ xs) zs; there = rows_there x xs zs h; holds = λ θ bs. same }
-
-table_int_means : (x : Term) (xs : List Term) (zs : List ℤ) → length zs % length (x ∷ xs) ≡ 0 → Means (codes "table_int") (arg.Ints (x ∷ xs) ∷ arg.Ints (consts zs) ∷ []) (λ θ. HasRow (x ∷ xs) zs θ)
-unfolding needs_of least_of shape_of FitsNeed term_at terms_at set_at
-table_int_means x xs zs h = record { number = 49; named = refl; fits = (tt, (are_consts zs, tt)); whole = (lit≤ tt, lit≤ tt); constraint = con.Table (x ∷ xs) zs; there = rows_there x xs zs h; holds = λ θ bs. same }
-
-fzn_table_int_refuses : (x : Term) (xs zs : List Term) → (length zs % length (x ∷ xs) ≡ 0 → ⊥) → Refuses (codes "fzn_table_int") (arg.Ints (x ∷ xs) ∷ arg.Ints zs ∷ [])
-unfolding shape_of term_at terms_at
-fzn_table_int_refuses x xs zs h = record { number = 48; named = refl; refused = rows_none x xs zs h }
-
-table_int_refuses : (x : Term) (xs zs : List Term) → (length zs % length (x ∷ xs) ≡ 0 → ⊥) → Refuses (codes "table_int") (arg.Ints (x ∷ xs) ∷ arg.Ints zs ∷ [])
-unfolding shape_of term_at terms_at
-table_int_refuses x xs zs h = record { number = 49; named = refl; refused = rows_none x xs zs h }
-
-fzn_table_int_refuses_none : (zs : List Term) → Refuses (codes "fzn_table_int") (arg.Ints [] ∷ arg.Ints zs ∷ [])
-unfolding shape_of term_at terms_at
-fzn_table_int_refuses_none zs = record { number = 48; named = refl; refused = no_rows zs }
-
-table_int_refuses_none : (zs : List Term) → Refuses (codes "table_int") (arg.Ints [] ∷ arg.Ints zs ∷ [])
-unfolding shape_of term_at terms_at
-table_int_refuses_none zs = record { number = 49; named = refl; refused = no_rows zs }
-
--- all lines
+-- ---- all lines
 pub names_mean : NamesMean
+unfolding needs_of least_of shape_of FitsNeed term_at terms_at set_at greatest least
 names_mean = record {
-  int_eq_means = int_eq_means;
-  int_ne_means = int_ne_means;
-  int_le_means = int_le_means;
-  int_lt_means = int_lt_means;
-  bool_eq_means = bool_eq_means;
-  bool_le_means = bool_le_means;
-  bool_lt_means = bool_lt_means;
-  bool2int_means = bool2int_means;
-  bool_not_means = bool_not_means;
-  bool_xor_means = bool_xor_means;
-  bool_xor_reif_means = bool_xor_reif_means;
-  int_lin_eq_means = int_lin_eq_means;
-  int_lin_le_means = int_lin_le_means;
-  int_lin_ne_means = int_lin_ne_means;
-  int_lin_eq_refuses = int_lin_eq_refuses;
-  int_lin_le_refuses = int_lin_le_refuses;
-  int_lin_ne_refuses = int_lin_ne_refuses;
-  int_eq_reif_means = int_eq_reif_means;
-  int_ne_reif_means = int_ne_reif_means;
-  int_le_reif_means = int_le_reif_means;
-  int_lt_reif_means = int_lt_reif_means;
-  bool_eq_reif_means = bool_eq_reif_means;
-  bool_le_reif_means = bool_le_reif_means;
-  bool_lt_reif_means = bool_lt_reif_means;
-  int_lin_eq_reif_means = int_lin_eq_reif_means;
-  int_lin_le_reif_means = int_lin_le_reif_means;
-  int_lin_ne_reif_means = int_lin_ne_reif_means;
-  int_lin_eq_reif_refuses = int_lin_eq_reif_refuses;
-  int_lin_le_reif_refuses = int_lin_le_reif_refuses;
-  int_lin_ne_reif_refuses = int_lin_ne_reif_refuses;
-  bool_and_means = bool_and_means;
-  array_bool_and_means = array_bool_and_means;
-  bool_or_means = bool_or_means;
-  array_bool_or_means = array_bool_or_means;
-  bool_clause_means = bool_clause_means;
-  bool_clause_reif_means = bool_clause_reif_means;
-  set_in_means = set_in_means;
-  set_in_reif_means = set_in_reif_means;
-  int_plus_means = int_plus_means;
-  int_times_means = int_times_means;
-  int_div_means = int_div_means;
-  int_mod_means = int_mod_means;
-  int_abs_means = int_abs_means;
-  int_max_means = int_max_means;
-  int_min_means = int_min_means;
-  array_int_maximum_means = array_int_maximum_means;
-  array_int_minimum_means = array_int_minimum_means;
-  array_int_maximum_refuses = array_int_maximum_refuses;
-  array_int_minimum_refuses = array_int_minimum_refuses;
-  array_int_element_means = array_int_element_means;
-  array_var_int_element_means = array_var_int_element_means;
-  array_bool_element_means = array_bool_element_means;
-  array_var_bool_element_means = array_var_bool_element_means;
-  fzn_all_different_int_means = fzn_all_different_int_means;
-  all_different_int_means = all_different_int_means;
-  fzn_cumulative_means = fzn_cumulative_means;
-  cumulative_means = cumulative_means;
-  fzn_cumulative_refuses = fzn_cumulative_refuses;
-  cumulative_refuses = cumulative_refuses;
-  fzn_table_int_means = fzn_table_int_means;
-  table_int_means = table_int_means;
-  fzn_table_int_refuses = fzn_table_int_refuses;
-  table_int_refuses = table_int_refuses;
-  fzn_table_int_refuses_none = fzn_table_int_refuses_none;
-  table_int_refuses_none = table_int_refuses_none;
+  int_eq_means = λ a b. record { number = 0; named = refl; fits = (tt, (tt, tt)); whole = (lit≤ tt, lit≤ tt); constraint = con.Base (linear rel.Eq (difference a b) (pos 0)); there = refl; holds = λ θ bs. differ rel.Eq a b θ };
+  int_ne_means = λ a b. record { number = 1; named = refl; fits = (tt, (tt, tt)); whole = (lit≤ tt, lit≤ tt); constraint = con.Base (linear rel.Ne (difference a b) (pos 0)); there = refl; holds = λ θ bs. differ rel.Ne a b θ };
+  int_le_means = λ a b. record { number = 2; named = refl; fits = (tt, (tt, tt)); whole = (lit≤ tt, lit≤ tt); constraint = con.Base (linear rel.Le (difference a b) (pos 0)); there = refl; holds = λ θ bs. differ rel.Le a b θ };
+  int_lt_means = λ a b. record { number = 3; named = refl; fits = (tt, (tt, tt)); whole = (lit≤ tt, lit≤ tt); constraint = con.Base (linear rel.Le (difference a b) (negsuc 0)); there = refl; holds = λ θ bs. below a b θ };
+  bool_eq_means = λ p q. record { number = 4; named = refl; fits = (tt, (tt, tt)); whole = (lit≤ tt, lit≤ tt); constraint = con.Base (linear rel.Eq (difference p q) (pos 0)); there = refl; holds = λ θ bs. differ rel.Eq p q θ };
+  bool_le_means = λ p q. record { number = 5; named = refl; fits = (tt, (tt, tt)); whole = (lit≤ tt, lit≤ tt); constraint = con.Base (linear rel.Le (difference p q) (pos 0)); there = refl; holds = λ θ bs. differ rel.Le p q θ };
+  bool_lt_means = λ p q. record { number = 6; named = refl; fits = (tt, (tt, tt)); whole = (lit≤ tt, lit≤ tt); constraint = con.Base (linear rel.Le (difference p q) (negsuc 0)); there = refl; holds = λ θ bs. below p q θ };
+  bool2int_means = λ p a. record { number = 7; named = refl; fits = (tt, (tt, tt)); whole = (lit≤ tt, lit≤ tt); constraint = con.Base (linear rel.Eq (difference p a) (pos 0)); there = refl; holds = λ θ bs. differ rel.Eq p a θ };
+  bool_not_means = λ p q. record { number = 8; named = refl; fits = (tt, (tt, tt)); whole = (lit≤ tt, lit≤ tt); constraint = con.Base (linear rel.Ne (difference p q) (pos 0)); there = refl; holds = λ θ bs. differ rel.Ne p q θ };
+  bool_xor_means = λ p q. record { number = 9; named = refl; fits = (tt, (tt, tt)); whole = (lit≤ tt, lit≤ tt); constraint = con.Base (linear rel.Ne (difference p q) (pos 0)); there = refl; holds = λ θ bs. differ rel.Ne p q θ };
+  bool_xor_reif_means = λ p q r. record { number = 9; named = refl; fits = (tt, (tt, (tt, tt))); whole = (lit≤ tt, lit≤ tt); constraint = con.Reif (linear rel.Ne (difference p q) (pos 0)) r true; there = refl; holds = λ θ bs. iff_iff (differ rel.Ne p q θ) };
+  int_lin_eq_means = λ cs xs k h. record { number = 10; named = refl; fits = (are_consts cs, (tt, (tt, tt))); whole = (lit≤ tt, lit≤ tt); constraint = con.Base (summed rel.Eq cs xs k); there = ap (option_map con.Base) (sum_there rel.Eq cs xs k h); holds = λ θ bs. stands rel.Eq cs xs k θ };
+  int_lin_le_means = λ cs xs k h. record { number = 11; named = refl; fits = (are_consts cs, (tt, (tt, tt))); whole = (lit≤ tt, lit≤ tt); constraint = con.Base (summed rel.Le cs xs k); there = ap (option_map con.Base) (sum_there rel.Le cs xs k h); holds = λ θ bs. stands rel.Le cs xs k θ };
+  int_lin_ne_means = λ cs xs k h. record { number = 12; named = refl; fits = (are_consts cs, (tt, (tt, tt))); whole = (lit≤ tt, lit≤ tt); constraint = con.Base (summed rel.Ne cs xs k); there = ap (option_map con.Base) (sum_there rel.Ne cs xs k h); holds = λ θ bs. stands rel.Ne cs xs k θ };
+  int_lin_eq_refuses = λ cs xs k h. record { number = 10; named = refl; refused = ap (option_map (con.Base)) (sum_none rel.Eq cs xs (number k) h) };
+  int_lin_le_refuses = λ cs xs k h. record { number = 11; named = refl; refused = ap (option_map (con.Base)) (sum_none rel.Le cs xs (number k) h) };
+  int_lin_ne_refuses = λ cs xs k h. record { number = 12; named = refl; refused = ap (option_map (con.Base)) (sum_none rel.Ne cs xs (number k) h) };
+  int_eq_reif_means = λ a b r. record { number = 13; named = refl; fits = (tt, (tt, (tt, tt))); whole = (lit≤ tt, lit≤ tt); constraint = con.Reif (linear rel.Eq (difference a b) (pos 0)) r true; there = refl; holds = λ θ bs. iff_iff (differ rel.Eq a b θ) };
+  int_ne_reif_means = λ a b r. record { number = 14; named = refl; fits = (tt, (tt, (tt, tt))); whole = (lit≤ tt, lit≤ tt); constraint = con.Reif (linear rel.Ne (difference a b) (pos 0)) r true; there = refl; holds = λ θ bs. iff_iff (differ rel.Ne a b θ) };
+  int_le_reif_means = λ a b r. record { number = 15; named = refl; fits = (tt, (tt, (tt, tt))); whole = (lit≤ tt, lit≤ tt); constraint = con.Reif (linear rel.Le (difference a b) (pos 0)) r true; there = refl; holds = λ θ bs. iff_iff (differ rel.Le a b θ) };
+  int_lt_reif_means = λ a b r. record { number = 16; named = refl; fits = (tt, (tt, (tt, tt))); whole = (lit≤ tt, lit≤ tt); constraint = con.Reif (linear rel.Le (difference a b) (negsuc 0)) r true; there = refl; holds = λ θ bs. iff_iff (below a b θ) };
+  bool_eq_reif_means = λ p q r. record { number = 17; named = refl; fits = (tt, (tt, (tt, tt))); whole = (lit≤ tt, lit≤ tt); constraint = con.Reif (linear rel.Eq (difference p q) (pos 0)) r true; there = refl; holds = λ θ bs. iff_iff (differ rel.Eq p q θ) };
+  bool_le_reif_means = λ p q r. record { number = 18; named = refl; fits = (tt, (tt, (tt, tt))); whole = (lit≤ tt, lit≤ tt); constraint = con.Reif (linear rel.Le (difference p q) (pos 0)) r true; there = refl; holds = λ θ bs. iff_iff (differ rel.Le p q θ) };
+  bool_lt_reif_means = λ p q r. record { number = 19; named = refl; fits = (tt, (tt, (tt, tt))); whole = (lit≤ tt, lit≤ tt); constraint = con.Reif (linear rel.Le (difference p q) (negsuc 0)) r true; there = refl; holds = λ θ bs. iff_iff (below p q θ) };
+  int_lin_eq_reif_means = λ cs xs k r h. record { number = 20; named = refl; fits = (are_consts cs, (tt, (tt, (tt, tt)))); whole = (lit≤ tt, lit≤ tt); constraint = con.Reif (summed rel.Eq cs xs k) r true; there = ap (option_map (λ b. con.Reif b r true)) (sum_there rel.Eq cs xs k h); holds = λ θ bs. iff_iff (stands rel.Eq cs xs k θ) };
+  int_lin_le_reif_means = λ cs xs k r h. record { number = 21; named = refl; fits = (are_consts cs, (tt, (tt, (tt, tt)))); whole = (lit≤ tt, lit≤ tt); constraint = con.Reif (summed rel.Le cs xs k) r true; there = ap (option_map (λ b. con.Reif b r true)) (sum_there rel.Le cs xs k h); holds = λ θ bs. iff_iff (stands rel.Le cs xs k θ) };
+  int_lin_ne_reif_means = λ cs xs k r h. record { number = 22; named = refl; fits = (are_consts cs, (tt, (tt, (tt, tt)))); whole = (lit≤ tt, lit≤ tt); constraint = con.Reif (summed rel.Ne cs xs k) r true; there = ap (option_map (λ b. con.Reif b r true)) (sum_there rel.Ne cs xs k h); holds = λ θ bs. iff_iff (stands rel.Ne cs xs k θ) };
+  int_lin_eq_reif_refuses = λ cs xs k r h. record { number = 20; named = refl; refused = ap (option_map (λ b. con.Reif b r true)) (sum_none rel.Eq cs xs (number k) h) };
+  int_lin_le_reif_refuses = λ cs xs k r h. record { number = 21; named = refl; refused = ap (option_map (λ b. con.Reif b r true)) (sum_none rel.Le cs xs (number k) h) };
+  int_lin_ne_reif_refuses = λ cs xs k r h. record { number = 22; named = refl; refused = ap (option_map (λ b. con.Reif b r true)) (sum_none rel.Ne cs xs (number k) h) };
+  bool_and_means = λ p q r. record { number = 23; named = refl; fits = (tt, (tt, (tt, tt))); whole = (lit≤ tt, lit≤ tt); constraint = all_true (p ∷ q ∷ []) r; there = refl; holds = λ θ bs. both (all_true_is (p ∷ q ∷ []) r θ ((all_two (IsBoolIn θ) p q).1 (bs.0, bs.1.0)) bs.1.1.0) (iff_iff (all_two (IsTrueIn θ) p q)) };
+  array_bool_and_means = λ ps r. record { number = 24; named = refl; fits = (tt, (tt, tt)); whole = (lit≤ tt, lit≤ tt); constraint = all_true ps r; there = refl; holds = λ θ bs. all_true_is ps r θ bs.0 bs.1.0 };
+  bool_or_means = λ p q r. record { number = 25; named = refl; fits = (tt, (tt, (tt, tt))); whole = (lit≤ tt, lit≤ tt); constraint = any_true (p ∷ q ∷ []) r; there = refl; holds = λ θ bs. iff_iff (both (any_true_is (p ∷ q ∷ []) θ) (of_two (IsTrueIn θ) p q, two_of (IsTrueIn θ) p q)) };
+  array_bool_or_means = λ ps r. record { number = 26; named = refl; fits = (tt, (tt, tt)); whole = (lit≤ tt, lit≤ tt); constraint = any_true ps r; there = refl; holds = λ θ bs. iff_iff (any_true_is ps θ) };
+  bool_clause_means = λ ps qs. record { number = 27; named = refl; fits = (tt, (tt, tt)); whole = (lit≤ tt, lit≤ tt); constraint = con.Base (clause ps qs); there = refl; holds = λ θ bs. clause_is ps qs θ };
+  bool_clause_reif_means = λ ps qs r. record { number = 28; named = refl; fits = (tt, (tt, (tt, tt))); whole = (lit≤ tt, lit≤ tt); constraint = con.Reif (clause ps qs) r true; there = refl; holds = λ θ bs. iff_iff (clause_is ps qs θ) };
+  set_in_means = λ x s. record { number = 29; named = refl; fits = (tt, (tt, tt)); whole = (lit≤ tt, lit≤ tt); constraint = con.Base (member x s); there = refl; holds = λ θ bs. member_is x s θ };
+  set_in_reif_means = λ x s r. record { number = 30; named = refl; fits = (tt, (tt, (tt, tt))); whole = (lit≤ tt, lit≤ tt); constraint = con.Reif (member x s) r true; there = refl; holds = λ θ bs. iff_iff (member_is x s θ) };
+  int_plus_means = λ a b c. record { number = 31; named = refl; fits = (tt, (tt, (tt, tt))); whole = (lit≤ tt, lit≤ tt); constraint = con.Base (linear rel.Eq (balance a b c) (pos 0)); there = refl; holds = λ θ bs. balanced a b c θ };
+  int_times_means = λ a b c. record { number = 32; named = refl; fits = (tt, (tt, (tt, tt))); whole = (lit≤ tt, lit≤ tt); constraint = con.Times a b c; there = refl; holds = λ θ bs. same };
+  int_div_means = λ a b c. record { number = 33; named = refl; fits = (tt, (tt, (tt, tt))); whole = (lit≤ tt, lit≤ tt); constraint = con.Div a b c; there = refl; holds = λ θ bs. same };
+  int_mod_means = λ a b c. record { number = 34; named = refl; fits = (tt, (tt, (tt, tt))); whole = (lit≤ tt, lit≤ tt); constraint = con.Mod a b c; there = refl; holds = λ θ bs. same };
+  int_abs_means = λ a b. record { number = 35; named = refl; fits = (tt, (tt, tt)); whole = (lit≤ tt, lit≤ tt); constraint = con.Abs a b; there = refl; holds = λ θ bs. same };
+  int_max_means = λ a b c. record { number = 36; named = refl; fits = (tt, (tt, (tt, tt))); whole = (lit≤ tt, lit≤ tt); constraint = con.Greatest c (a ∷ b ∷ []); there = refl; holds = λ θ bs. both (greatest_is c (a ∷ b ∷ []) θ) (with_both (all_two (λ x. val x θ ≤ℤ val c θ) a b)) };
+  int_min_means = λ a b c. record { number = 37; named = refl; fits = (tt, (tt, (tt, tt))); whole = (lit≤ tt, lit≤ tt); constraint = con.Least c (a ∷ b ∷ []); there = refl; holds = λ θ bs. both (least_is c (a ∷ b ∷ []) θ) (with_both (all_two (λ x. val c θ ≤ℤ val x θ) a b)) };
+  array_int_maximum_means = λ m xs h. record { number = 38; named = refl; fits = (tt, (tt, tt)); whole = (lit≤ tt, lit≤ tt); constraint = con.Greatest m xs; there = greatest_there m xs h; holds = λ θ bs. greatest_is m xs θ };
+  array_int_minimum_means = λ m xs h. record { number = 39; named = refl; fits = (tt, (tt, tt)); whole = (lit≤ tt, lit≤ tt); constraint = con.Least m xs; there = least_there m xs h; holds = λ θ bs. least_is m xs θ };
+  array_int_maximum_refuses = λ m. record { number = 38; named = refl; refused = refl };
+  array_int_minimum_refuses = λ m. record { number = 39; named = refl; refused = refl };
+  array_int_element_means = λ i zs c. record { number = 40; named = refl; fits = (tt, (are_consts zs, (tt, tt))); whole = (lit≤ tt, lit≤ tt); constraint = con.Element i (consts zs) c; there = refl; holds = λ θ bs. same };
+  array_var_int_element_means = λ i xs c. record { number = 41; named = refl; fits = (tt, (tt, (tt, tt))); whole = (lit≤ tt, lit≤ tt); constraint = con.Element i (xs) c; there = refl; holds = λ θ bs. same };
+  array_bool_element_means = λ i zs p. record { number = 42; named = refl; fits = (tt, (are_consts zs, (tt, tt))); whole = (lit≤ tt, lit≤ tt); constraint = con.Element i (consts zs) p; there = refl; holds = λ θ bs. same };
+  array_var_bool_element_means = λ i ps p. record { number = 43; named = refl; fits = (tt, (tt, (tt, tt))); whole = (lit≤ tt, lit≤ tt); constraint = con.Element i (ps) p; there = refl; holds = λ θ bs. same };
+  fzn_all_different_int_means = λ xs. record { number = 44; named = refl; fits = (tt, tt); whole = (lit≤ tt, lit≤ tt); constraint = con.AllDiffExcept xs []; there = refl; holds = λ θ bs. different_is xs θ };
+  all_different_int_means = λ xs. record { number = 45; named = refl; fits = (tt, tt); whole = (lit≤ tt, lit≤ tt); constraint = con.AllDiffExcept xs []; there = refl; holds = λ θ bs. different_is xs θ };
+  fzn_cumulative_means = λ ss ds rs b d e. record { number = 46; named = refl; fits = (tt, (tt, (tt, (tt, tt)))); whole = (lit≤ tt, lit≤ tt); constraint = con.CumulUsed (tasks_of ss ds rs) [] b; there = cumulative_there ss ds rs b d e; holds = λ θ bs. capacity_is ss ds rs b θ d e };
+  cumulative_means = λ ss ds rs b d e. record { number = 47; named = refl; fits = (tt, (tt, (tt, (tt, tt)))); whole = (lit≤ tt, lit≤ tt); constraint = con.CumulUsed (tasks_of ss ds rs) [] b; there = cumulative_there ss ds rs b d e; holds = λ θ bs. capacity_is ss ds rs b θ d e };
+  fzn_cumulative_refuses = λ ss ds rs b h. record { number = 46; named = refl; refused = cumulative_none ss ds rs b h };
+  cumulative_refuses = λ ss ds rs b h. record { number = 47; named = refl; refused = cumulative_none ss ds rs b h };
+  fzn_table_int_means = λ x xs zs h. record { number = 48; named = refl; fits = (tt, (are_consts zs, tt)); whole = (lit≤ tt, lit≤ tt); constraint = con.Table (x ∷ xs) zs; there = rows_there x xs zs h; holds = λ θ bs. same };
+  table_int_means = λ x xs zs h. record { number = 49; named = refl; fits = (tt, (are_consts zs, tt)); whole = (lit≤ tt, lit≤ tt); constraint = con.Table (x ∷ xs) zs; there = rows_there x xs zs h; holds = λ θ bs. same };
+  fzn_table_int_refuses = λ x xs zs h. record { number = 48; named = refl; refused = rows_none x xs zs h };
+  table_int_refuses = λ x xs zs h. record { number = 49; named = refl; refused = rows_none x xs zs h };
+  fzn_table_int_refuses_none = λ zs. record { number = 48; named = refl; refused = no_rows zs };
+  table_int_refuses_none = λ zs. record { number = 49; named = refl; refused = no_rows zs };
 }

@@ -31,8 +31,8 @@ Fits [] (a ∷ args) = ⊥
 Fits (n ∷ needs) (a ∷ args) = FitsNeed n a × Fits needs args
 
 -- What follows reads an argument by its place and kind. Where no argument of the kind stands there, 0 or an empty list
--- stands for it. Arguments that fit the needs of a row never come to that: what is read of them is said name by name in
--- `specs/Names.antt`.
+-- stands for it. Arguments of a name never come to that, which is a law (`ArgumentsAreRead`, `specs/Reading.antt`); what is
+-- read of them is said name by name in `specs/Names.antt`.
 abbrev pub arg_at : List Arg → ℕ → Arg
 arg_at args place = slice_index_or args place (arg.Int (term.Const (pos 0)))
 

@@ -1,4 +1,5 @@
--- What the table of names says of a name, by its number.
+-- What the table of names says of a name, by its number. The number of a name is that of a row (`ArgumentsAreRead`,
+-- `specs/Reading.antt`), so what stands here for a row that isn't there is never read.
 use Rattle.std.specs.Prelude.{ℕ, ◌≤◌, List, [], Option, map, position, length, slice_index, slice_index_or}
 use Rattle.std.specs.Str.{bytes_eq}
 use Rattle.fzn_builtin.specs.declared.needs.Need.{Need}

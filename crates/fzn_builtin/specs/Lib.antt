@@ -4,4 +4,5 @@ pub mod Constraints
 pub mod Names
 pub mod Laws
 pub mod Limits
+pub mod Reading
 pub mod Internals

@@ -1,6 +1,6 @@
 ghost use Rattle.std.specs.Prelude.{◌≡◌};
 ghost use Rattle.fzn_builtin.specs.Arguments.{number, term_at, terms_at, set_at, IsConst};
-ghost use Rattle.fzn_builtin.specs.Internals.{HasTerm, HasTerms, HasSet};
+ghost use Rattle.fzn_builtin.specs.Reading.{HasTerm, HasTerms, HasSet};
 
 use fzn_model::{List, Runs, Term};
 
@@ -26,7 +26,7 @@ pub(crate) fn number(term: Term) -> i64
 }
 
 /// The int or bool in the place.
-#[tactic(auto, unfolding(crate::specs::Arguments::term_at, crate::specs::Internals::HasTerm))]
+#[tactic(auto, unfolding(crate::specs::Arguments::term_at, crate::specs::Reading::HasTerm))]
 pub(crate) fn term_at(args: &[Arg], place: usize) -> Term
     requires { HasTerm args.now place }
     ensures { result ≡ term_at args.now place }
@@ -38,7 +38,7 @@ pub(crate) fn term_at(args: &[Arg], place: usize) -> Term
 }
 
 /// The list of ints or bools in the place.
-#[tactic(auto, unfolding(crate::specs::Arguments::terms_at, crate::specs::Internals::HasTerms))]
+#[tactic(auto, unfolding(crate::specs::Arguments::terms_at, crate::specs::Reading::HasTerms))]
 pub(crate) fn terms_at(args: &[Arg], place: usize) -> &[Term]
     requires { HasTerms args.now place }
     ensures { result.now ≡ terms_at args.now place }
@@ -50,7 +50,7 @@ pub(crate) fn terms_at(args: &[Arg], place: usize) -> &[Term]
 }
 
 /// The set in the place.
-#[tactic(auto, unfolding(crate::specs::Arguments::set_at, crate::specs::Internals::HasSet))]
+#[tactic(auto, unfolding(crate::specs::Arguments::set_at, crate::specs::Reading::HasSet))]
 pub(crate) fn set_at(args: &[Arg], place: usize) -> &Runs
     requires { HasSet args.now place }
     ensures { result.now ≡ set_at args.now place }

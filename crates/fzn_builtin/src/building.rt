@@ -4,7 +4,7 @@ ghost use Rattle.fzn_builtin.specs.Arguments.{Fits};
 ghost use Rattle.fzn_builtin.specs.Limits.{ArgKept, ArgTruth};
 ghost use Rattle.fzn_builtin.specs.Builtins.{needs_of, shape_of, IsArgumentCount};
 ghost use Rattle.fzn_builtin.specs.Constraints.{relation_of, count, differing, constraint_of, Builds};
-ghost use Rattle.fzn_builtin.specs.Internals.{HasRelationArguments, HasArguments};
+ghost use Rattle.fzn_builtin.specs.Reading.{HasRelationArguments, HasArguments};
 
 use crate::arg::{Arg, number, set_at, term_at, terms_at};
 use crate::builtin::{Builtin, shape};

@@ -10,9 +10,10 @@
 //!
 //! What it promises: [`find`] gives the number of exactly the names of the table, [`need`] and [`may_end`] say what the
 //! table says, and [`build`] gives the constraint of the row, or refuses exactly the lengths that the row refuses. A
-//! constraint that is built keeps the limits of a model where its arguments do. Beside the table stands a law,
-//! [`names_mean`]: what each name says of its arguments, in the words of the standard, a line a name
-//! (`specs/Names.antt`).
+//! constraint that is built keeps the limits of a model where its arguments do. Beside the table stand laws:
+//! [`names_mean`], what each name says of its arguments, in the words of the standard, a line a name
+//! (`specs/Names.antt`), and [`arguments_are_read`], that all arguments that a constraint is made of are there
+//! (`specs/Reading.antt`).
 //!
 //! What it stands on: `fzn_model`, whose constraints it builds.
 #![tactic(auto)]
@@ -41,7 +42,7 @@ pub use building::build;
 pub use builtin::{Builtin, find, may_end, need};
 pub use fault::BuildFault;
 pub use fitting::fits;
-pub use laws::{global_names_match, names_mean, reified_names_match};
+pub use laws::{arguments_are_read, global_names_match, names_mean, reified_names_match};
 pub use needs::Need;
 pub use shape::{Relation, Shape};
 pub use table::{ROWS, Row, TABLE};

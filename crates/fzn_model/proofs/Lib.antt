@@ -1,6 +1,7 @@
 pub mod Sums
 pub mod Distinct
 pub mod Moments
+pub mod Pigeons
 pub mod Wider
 pub mod Tops
 pub mod Reaching

@@ -1,9 +1,10 @@
--- Loads rise only where something starts, so what fits at all starts fits at all moments.
-use Rattle.std.proofs.Common.{◌≡◌, ℕ, suc, ◌+◌, ◌<◌, ◌⊎◌, inl, inr, Bool, true, false, cond, ◌&&◌, List, [], ◌∷◌, ◌++◌, map, length, get_or, drop, refl, ap, arith, ◌∙◌, sym, ℤ, pos, ◌+ℤ◌, ◌≤ℤ◌, add-one, drop-cons, subst}
-use Rattle.std.specs.Prelude.{int_le, int_lt}
+-- Loads rise only where something begins, so what fits at all starts fits at all moments. The difference of two loads rises
+-- only where one of the first begins or one of the second ends.
+use Rattle.std.proofs.Common.{◌≡◌, ℕ, ◌+◌, ◌<◌, ◌⊎◌, inl, inr, Bool, cond, ◌&&◌, List, [], ◌∷◌, ◌++◌, map, length, get_or, drop, refl, ap, arith, ℤ, pos, ◌+ℤ◌, ◌-ℤ◌, ◌≤ℤ◌, ◌<ℤ◌, add-one, drop-cons}
+use Rattle.std.specs.Prelude.{int_le, int_lt, All}
 use Rattle.std.specs.List.{AllByRecursion}
 use Rattle.std.proofs.lemmas.Int.{ints, by_lt_z}
-use Rattle.std.proofs.lemmas.List.Elements.{recursion_from_All, All-from_recursion}
+use Rattle.std.proofs.lemmas.List.Elements.{recursion_from_All, All-nil, All-cons, All-head, All-tail, All-append, All-map}
 use Rattle.fzn_model.specs.Meaning.{val, amount_at, usage, FitsAlways, AreTasks}
 use Rattle.fzn_model.specs.Starts.{StartsFit, TaskStartsFit}
 use Rattle.fzn_model.specs.Limits.{UsedInLimits, of_call}
@@ -31,112 +32,136 @@ pub amount_append : (xs ys : List Used) (t : ℤ) → amount_at (xs ++ ys) t ≡
 amount_append [] ys t = omega (arith, ints)
 amount_append (x ∷ xs) ys t = omega (arith, ints, amount_append xs ys t)
 
--- Of an amount as much is used at an earlier moment m as at t, or more, if it starts by m where it is active at t.
-part_at_most : (u : Used) (t m : ℤ) → m ≤ℤ t → (active u t ≡ true → u.from ≤ℤ m) → pos 0 ≤ℤ u.amount → part u t ≤ℤ part u m
-part_at_most u t m h f z = grind (arith, ints)
+-- ---- what is used of one amount
+pub part_later : (u : Used) (t : ℤ) → t <ℤ u.from → part u t ≡ pos 0
+part_later u t h = grind (arith, ints)
 
--- The load at t is at most that at an earlier moment m by which all that is active at t has started.
-amount_at_most : (us : List Used) (t m : ℤ) → m ≤ℤ t → AllByRecursion (λ u. active u t ≡ true → u.from ≤ℤ m) us → AllByRecursion (λ u. pos 0 ≤ℤ u.amount) us → amount_at us t ≤ℤ amount_at us m
-amount_at_most [] t m h f z = omega (arith, ints)
-amount_at_most (u ∷ us) t m h f z = omega (arith, ints, part_at_most u t m h f.0 z.0, amount_at_most us t m h f.1 z.1)
+pub part_over : (u : Used) (t : ℤ) → u.to ≤ℤ t → part u t ≡ pos 0
+part_over u t h = grind (arith, ints)
 
--- no part is negative
-part_not_negative : (u : Used) (t : ℤ) → pos 0 ≤ℤ u.amount → pos 0 ≤ℤ part u t
+pub part_within : (u : Used) (t : ℤ) → u.from ≤ℤ t → t <ℤ u.to → part u t ≡ u.amount
+part_within u t g h = grind (arith, ints)
+
+pub part_not_negative : (u : Used) (t : ℤ) → pos 0 ≤ℤ u.amount → pos 0 ≤ℤ part u t
 part_not_negative u t z = grind (arith, ints)
 
--- the latest start among those that are active, if one is
-record Latest (us : List Used) (t : ℤ) : Type 0 where
-  at : ℕ
-  one : Used
-  within : at < length us
-  is : get_or us at one ≡ one
-  before : one.from ≤ℤ t
-  last : AllByRecursion (λ u. active u t ≡ true → u.from ≤ℤ one.from) us
+-- Of an amount that begins by m, if by t, as much is used at m as at the later t or more.
+part_falls : (u : Used) (t m : ℤ) → m ≤ℤ t → (u.from ≤ℤ t → u.from ≤ℤ m) → pos 0 ≤ℤ u.amount → part u t ≤ℤ part u m
+part_falls u t m h f z = grind (arith, ints)
 
--- the load is 0 where nothing is active
-nothing_used : (us : List Used) (t : ℤ) → AllByRecursion (λ u. active u t ≡ false) us → amount_at us t ≡ pos 0
-nothing_used [] t h = refl
-nothing_used (u ∷ us) t h = rw h.0 (omega (arith, ints, nothing_used us t h.1))
+-- Of one that ends by m, if by t, no more.
+part_rises : (u : Used) (t m : ℤ) → m ≤ℤ t → (u.to ≤ℤ t → u.to ≤ℤ m) → pos 0 ≤ℤ u.amount → part u m ≤ℤ part u t
+part_rises u t m h f z = grind (arith, ints)
 
--- what is active has started
-active_starts : (u : Used) (t : ℤ) → active u t ≡ true → u.from ≤ℤ t
-active_starts u t h = grind (arith, ints)
+-- ---- loads of amounts that aren't negative
+abbrev pub NotNegative : List Used → Type 0
+NotNegative us = All (λ u. pos 0 ≤ℤ u.amount) us
 
--- what starts at a or before starts at b or before, where a is at most b
-starts_by_more : (us : List Used) (t a b : ℤ) → a ≤ℤ b → AllByRecursion (λ u. active u t ≡ true → u.from ≤ℤ a) us → AllByRecursion (λ u. active u t ≡ true → u.from ≤ℤ b) us
-starts_by_more [] t a b h f = tt
-starts_by_more (u ∷ us) t a b h f = (λ e. let k : u.from ≤ℤ a = f.0 e in omega (arith, ints), starts_by_more us t a b h f.1)
+not_negative_by : (us : List Used) (t : ℤ) → AllByRecursion (λ u. pos 0 ≤ℤ u.amount) us → pos 0 ≤ℤ amount_at us t
+not_negative_by [] t n = omega (arith, ints)
+not_negative_by (u ∷ us) t n = omega (arith, ints, part_not_negative u t n.0, not_negative_by us t n.1)
 
--- where nothing is active, all that is active starts at a or before
-none_starts : (us : List Used) (t a : ℤ) → AllByRecursion (λ u. active u t ≡ false) us → AllByRecursion (λ u. active u t ≡ true → u.from ≤ℤ a) us
-none_starts [] t a h = tt
-none_starts (u ∷ us) t a h = (λ e. absurd (let d : true ≡ false = sym e ∙ h.0 in cc), none_starts us t a h.1)
+pub amount_not_negative : (us : List Used) (t : ℤ) → NotNegative us → pos 0 ≤ℤ amount_at us t
+amount_not_negative us t n = not_negative_by us t (recursion_from_All (λ u. pos 0 ≤ℤ u.amount) us n)
 
--- the latest start stays the latest with one more amount that starts at it or before, if active
-latest_stays : (u : Used) (us : List Used) (t : ℤ) (l : Latest us t) → (active u t ≡ true → u.from ≤ℤ l.one.from) → Latest (u ∷ us) t
-latest_stays u us t l h = record { at = suc l.at; one = l.one; within = omega (arith, l.within); is = l.is; before = l.before; last = (h, l.last) }
+-- nothing is used before all of them begin, and after all have ended
+pub amount_later : (us : List Used) (t : ℤ) → AllByRecursion (λ u. t <ℤ u.from) us → amount_at us t ≡ pos 0
+amount_later [] t h = refl
+amount_later (u ∷ us) t h = omega (arith, ints, part_later u t h.0, amount_later us t h.1)
 
--- an active amount that starts at or after all the others has the latest start
-latest_first : (u : Used) (us : List Used) (t : ℤ) → active u t ≡ true → AllByRecursion (λ v. active v t ≡ true → v.from ≤ℤ u.from) us → Latest (u ∷ us) t
-latest_first u us t e f = record { at = 0; one = u; within = omega arith; is = refl; before = active_starts u t e; last = (λ _. omega (arith, ints), f) }
+pub amount_over : (us : List Used) (t : ℤ) → AllByRecursion (λ u. u.to ≤ℤ t) us → amount_at us t ≡ pos 0
+amount_over [] t h = refl
+amount_over (u ∷ us) t h = omega (arith, ints, part_over u t h.0, amount_over us t h.1)
 
--- of two numbers one is at most the other
-in_order : (a b : ℤ) → (a ≤ℤ b) ⊎ (b ≤ℤ a)
-in_order a b = by_lt_z a b (λ h. inl (omega (arith, ints))) inr
+-- ---- the latest of some moments
+-- a moment that is by t is by m
+abbrev IsBy : ℤ → ℤ → ℤ → Type 0
+IsBy t m x = x ≤ℤ t → x ≤ℤ m
 
--- the latest start of one more amount and the others
-latest_of_more : (u : Used) (us : List Used) (t : ℤ) (b : Bool) → active u t ≡ b → AllByRecursion (λ u. active u t ≡ false) us ⊎ Latest us t → AllByRecursion (λ u. active u t ≡ false) (u ∷ us) ⊎ Latest (u ∷ us) t
-latest_of_more u us t false e (inl h) = inl (e, h)
-latest_of_more u us t false e (inr l) = inr (latest_stays u us t l (λ x. absurd (let d : true ≡ false = sym x ∙ e in cc)))
-latest_of_more u us t true e (inl h) = inr (latest_first u us t e (none_starts us t u.from h))
-latest_of_more u us t true e (inr l) = elim (in_order u.from l.one.from) [ inl p ↦ inr (latest_stays u us t l (λ _. p)) | inr p ↦ inr (latest_first u us t e (starts_by_more us t l.one.from u.from p l.last)) ]
+-- the latest of the moments that are by t
+record Latest (xs : List ℤ) (t : ℤ) : Type 0 where
+  moment : ℤ
+  before : moment ≤ℤ t
+  last : All (IsBy t moment) xs
+  reached : (f : ℤ → ℤ) (r : ℤ) → All (λ x. f x ≤ℤ r) xs → f moment ≤ℤ r
 
--- nothing is active, or one of those that are has the latest start
-latest : (us : List Used) (t : ℤ) → AllByRecursion (λ u. active u t ≡ false) us ⊎ Latest us t
-latest [] t = inl tt
-latest (u ∷ us) t = latest_of_more u us t (active u t) refl (latest us t)
+first_latest : (x : ℤ) (xs : List ℤ) (t : ℤ) → x ≤ℤ t → All (IsBy t x) xs → Latest (x ∷ xs) t
+first_latest x xs t h all = record { moment = x; before = h; last = All-cons (IsBy t x) x xs (λ _. omega (arith, ints)) all; reached = λ f r each. All-head (λ x. f x ≤ℤ r) x xs each }
 
--- no amount is negative
-abbrev NotNegative : List Used → Type 0
-NotNegative us = AllByRecursion (λ u. pos 0 ≤ℤ u.amount) us
+same_latest : (x : ℤ) (xs : List ℤ) (t : ℤ) (l : Latest xs t) → IsBy t l.moment x → Latest (x ∷ xs) t
+same_latest x xs t l h = record { moment = l.moment; before = l.before; last = All-cons (IsBy t l.moment) x xs h l.last; reached = λ f r each. l.reached f r (All-tail (λ x. f x ≤ℤ r) x xs each) }
 
--- what fits at each start fits always
-fits_from_starts : (us : List Used) (b : ℤ) → NotNegative us → pos 0 ≤ℤ b → StartsFit us us b → FitsAlways us b
-unfolding StartsFit FitsAlways
-fits_from_starts us b n z f t = elim (latest us t) [
-  | inl h ↦ rw (nothing_used us t h) z
-  | inr l ↦ let m = amount_at_most us t l.one.from l.before l.last n in
-      let k : amount_at us l.one.from ≤ℤ b = subst (λ (u : Used). amount_at us u.from ≤ℤ b) l.is (f l.at l.one l.within) in omega (arith, ints)
+in_order : (a b : ℤ) → (a ≤ℤ b) ⊎ (b <ℤ a)
+in_order a b = by_lt_z b a inr inl
+
+latest_more : (x : ℤ) (xs : List ℤ) (t : ℤ) → (x ≤ℤ t) ⊎ (t <ℤ x) → All (λ x. t <ℤ x) xs ⊎ Latest xs t → All (λ x. t <ℤ x) (x ∷ xs) ⊎ Latest (x ∷ xs) t
+latest_more x xs t (inl h) (inl none) = inr (first_latest x xs t h (λ i d k e. let after = none i d k in absurd (omega (arith, ints, after, e))))
+latest_more x xs t (inr h) (inl none) = inl (All-cons (λ x. t <ℤ x) x xs h none)
+latest_more x xs t (inr h) (inr l) = inr (same_latest x xs t l (λ e. absurd (omega (arith, ints))))
+latest_more x xs t (inl h) (inr l) = elim (in_order x l.moment) [
+  | inl k ↦ inr (same_latest x xs t l (λ _. k))
+  | inr k ↦ inr (first_latest x xs t h (λ i d j e. let by = l.last i d j e in omega (arith, ints, by, k)))
 ]
 
--- a load of amounts that aren't negative isn't negative
-amount_not_negative : (us : List Used) (t : ℤ) → NotNegative us → pos 0 ≤ℤ amount_at us t
-amount_not_negative [] t n = omega (arith, ints)
-amount_not_negative (u ∷ us) t n = let p : pos 0 ≤ℤ part u t = part_not_negative u t n.0 in let q = amount_not_negative us t n.1 in omega (arith, ints)
+latest : (xs : List ℤ) (t : ℤ) → All (λ x. t <ℤ x) xs ⊎ Latest xs t
+latest [] t = inl (All-nil (λ x. t <ℤ x))
+latest (x ∷ xs) t = latest_more x xs t (in_order x t) (latest xs t)
 
--- what holds of the members of two lists holds of those of the one behind the other
-each_append : {X : Type 0} (P : X → Type 0) (xs ys : List X) → AllByRecursion P xs → AllByRecursion P ys → AllByRecursion P (xs ++ ys)
-each_append P [] ys f g = g
-each_append P (x ∷ xs) ys f g = (f.0, each_append P xs ys f.1 g)
+-- ---- the difference of two loads
+abbrev difference : List Used → List Used → ℤ → ℤ
+difference us vs t = amount_at us t -ℤ amount_at vs t
 
--- what holds of each image holds of the members of the mapped list
-each_map : {X Y : Type 0} (P : Y → Type 0) (f : X → Y) (xs : List X) → AllByRecursion (λ x. P (f x)) xs → AllByRecursion P (map f xs)
-each_map P f [] h = tt
-each_map P f (x ∷ xs) h = (h.0, each_map P f xs h.1)
+-- the moments where it may rise: where one of the first begins, or one of the second ends
+abbrev rises : List Used → List Used → List ℤ
+rises us vs = map (λ (u : Used). u.from) us ++ map (λ (v : Used). v.to) vs
 
+-- it is at most that at an earlier moment m by which all of these are that are by t
+difference_falls : (us vs : List Used) (t m : ℤ) → m ≤ℤ t → AllByRecursion (IsBy t m) (rises us vs) → AllByRecursion (λ u. pos 0 ≤ℤ u.amount) us → AllByRecursion (λ v. pos 0 ≤ℤ v.amount) vs → difference us vs t ≤ℤ difference us vs m
+difference_falls [] [] t m h f n k = omega (arith, ints)
+difference_falls [] (v ∷ vs) t m h f n k = omega (arith, ints, part_rises v t m h f.0 k.0, difference_falls [] vs t m h f.1 tt k.1)
+difference_falls (u ∷ us) vs t m h f n k = omega (arith, ints, part_falls u t m h f.0 n.0, difference_falls us vs t m h f.1 n.1 k)
+
+-- and isn't positive before all of them
+difference_early : (us vs : List Used) (t : ℤ) → AllByRecursion (λ x. t <ℤ x) (rises us vs) → AllByRecursion (λ v. pos 0 ≤ℤ v.amount) vs → difference us vs t ≤ℤ pos 0
+difference_early [] [] t f k = omega (arith, ints)
+difference_early [] (v ∷ vs) t f k = omega (arith, ints, part_not_negative v t k.0, difference_early [] vs t f.1 k.1)
+difference_early (u ∷ us) vs t f k = omega (arith, ints, part_later u t f.0, difference_early us vs t f.1 k)
+
+-- so what bounds it at these bounds it always
+pub difference_below : (us vs : List Used) (r : ℤ) → NotNegative us → NotNegative vs → pos 0 ≤ℤ r
+    → All (λ u. (amount_at us u.from -ℤ amount_at vs u.from) ≤ℤ r) us → All (λ v. (amount_at us v.to -ℤ amount_at vs v.to) ≤ℤ r) vs
+    → (t : ℤ) → (amount_at us t -ℤ amount_at vs t) ≤ℤ r
+difference_below us vs r n k z f g t =
+    let some : (ws : List Used) → NotNegative ws → AllByRecursion (λ w. pos 0 ≤ℤ w.amount) ws = recursion_from_All (λ w. pos 0 ≤ℤ w.amount) in
+    let P : ℤ → Type 0 = λ x. difference us vs x ≤ℤ r in
+    elim (latest (rises us vs) t) [
+      | inl none ↦ let early = difference_early us vs t (recursion_from_All (λ x. t <ℤ x) (rises us vs) none) (some vs k) in omega (arith, ints, early, z)
+      | inr l ↦ let falls = difference_falls us vs t l.moment l.before (recursion_from_All (IsBy t l.moment) (rises us vs) l.last) (some us n) (some vs k) in
+          let there = l.reached (difference us vs) r (All-append P (map (λ (u : Used). u.from) us) (map (λ (v : Used). v.to) vs) (All-map P (λ (u : Used). u.from) us f) (All-map P (λ (v : Used). v.to) vs g)) in
+          omega (arith, ints, falls, there)
+    ]
+
+-- what bounds a load where something begins bounds it always
+pub amount_below : (us : List Used) (r : ℤ) → NotNegative us → pos 0 ≤ℤ r → All (λ u. amount_at us u.from ≤ℤ r) us → (t : ℤ) → amount_at us t ≤ℤ r
+amount_below us r n z f t =
+    let none : NotNegative [] = All-nil (λ u. pos 0 ≤ℤ u.amount) in
+    let below = difference_below us [] r n none z (λ i d h. let at = f i d h in omega (arith, ints, at)) (All-nil (λ v. (amount_at us v.to -ℤ pos 0) ≤ℤ r)) t in
+    omega (arith, ints, below)
+
+-- ---- what fits
 -- neither what is used nor what tasks use is negative
 none_negative : (us : List Used) (ks : List CumTask) (θ : List ℤ) → UsedInLimits of_call us → AreTasks ks θ → NotNegative (us ++ map (usage θ) ks)
 unfolding AreTasks
-none_negative us ks θ k h = each_append _ us _ (recursion_from_All (λ u. pos 0 ≤ℤ u.amount) us (λ i d p. (k.amounts i d p).0))
-    (each_map (λ u. pos 0 ≤ℤ u.amount) (usage θ) ks (recursion_from_All (λ k. pos 0 ≤ℤ val k.r θ) ks (λ i d p. (h i d p).1)))
+none_negative us ks θ k h =
+    All-append (λ u. pos 0 ≤ℤ u.amount) us (map (usage θ) ks) (λ i d p. (k.amounts i d p).0) (All-map (λ u. pos 0 ≤ℤ u.amount) (usage θ) ks (λ i d p. (h i d p).1))
 
 -- what fits at each start fits at all moments
 pub starts_enough : (us : List Used) (ks : List CumTask) (θ : List ℤ) (b : ℤ) → UsedInLimits of_call us → AreTasks ks θ → pos 0 ≤ℤ b → StartsFit (us ++ map (usage θ) ks) us b → TaskStartsFit (us ++ map (usage θ) ks) ks θ b → FitsAlways (us ++ map (usage θ) ks) b
-unfolding StartsFit TaskStartsFit
+unfolding StartsFit TaskStartsFit FitsAlways
 starts_enough us ks θ b k h z f g =
     let all : List Used = us ++ map (usage θ) ks in
     let P : Used → Type 0 = λ u. amount_at all u.from ≤ℤ b in
-    fits_from_starts all b (none_negative us ks θ k h) z (All-from_recursion P all (each_append P us (map (usage θ) ks) (recursion_from_All P us f) (each_map P (usage θ) ks (recursion_from_All (λ k. P (usage θ k)) ks g))))
+    amount_below all b (none_negative us ks θ k h) z (All-append P us (map (usage θ) ks) f (All-map P (usage θ) ks g))
 
 -- what fits at all moments fits at the starts of amounts
 pub fits_starts : (all us : List Used) (b : ℤ) → FitsAlways all b → StartsFit all us b

@@ -11,7 +11,7 @@ use Rattle.fzn_model.proofs.Domains.{between, low_in}
 use Rattle.fzn_model.proofs.Grouping.{same_runs}
 use Rattle.fzn_model.specs.Grouping.{runs_of}
 use Rattle.rest_basic.specs.Forms.{in_set, term_values, set_left}
-use Rattle.rest_basic.specs.Gathered.{Gathered, AreBelow, IsAdded, cut, clipped}
+use Rattle.rest_basic.specs.Gathered.{Gathered, AreBelow, IsAdded, HasAll, cut, clipped}
 use Rattle.rest_basic.proofs.Members.{in_test, in_none, in_first, in_later, in_cases, left_has, left_runs}
 use Rattle.rest_basic.proofs.Values.{low_is_first, high_is_last}
 
@@ -59,11 +59,11 @@ in_either (run ∷ xs) ys z has = elim (in_cases run (xs ++ ys) z has) [
   | inr later ↦ elim (in_either xs ys z later) [ inl old ↦ inl (in_later run xs z old) | inr new ↦ inr new ]
 ]
 
-in_one : (run : ℤ × ℤ) (z : ℤ) → IsIn (run ∷ []) z → (run.0 ≤ℤ z) × (z ≤ℤ run.1)
+pub in_one : (run : ℤ × ℤ) (z : ℤ) → IsIn (run ∷ []) z → (run.0 ≤ℤ z) × (z ≤ℤ run.1)
 unfolding IsWithin
 in_one run z has = elim (in_cases run [] z has) [ inl here ↦ here | inr none ↦ absurd (in_none z none) ]
 
-one_in : (run : ℤ × ℤ) (z : ℤ) → (run.0 ≤ℤ z) → (z ≤ℤ run.1) → IsIn (run ∷ []) z
+pub one_in : (run : ℤ × ℤ) (z : ℤ) → (run.0 ≤ℤ z) → (z ≤ℤ run.1) → IsIn (run ∷ []) z
 unfolding IsWithin
 one_in run z from to = in_first run [] z (from, to)
 
@@ -81,7 +81,7 @@ pub add_first : (number : ℤ) (runs front after : List (ℤ × ℤ)) → runs �
 add_first number runs [] after was none is = rw (was, is) (first_added number)
 add_first number runs (run ∷ front) after was none is = absurd (omega (arith, none, ap length was))
 
-split_at : (z number : ℤ) → z ≤ℤ number → (t : Bool) → int_lt z number ≡ t → (z <ℤ number) ⊎ (z ≡ number)
+pub split_at : (z number : ℤ) → z ≤ℤ number → (t : Bool) → int_lt z number ≡ t → (z <ℤ number) ⊎ (z ≡ number)
 split_at z number le true e = inl (omega (arith, ints, e))
 split_at z number le false e = inr (omega (arith, ints, le, e))
 
@@ -249,17 +249,17 @@ domain_order box x domain =
     let last = high_is_last box x in
     omega (arith, ints, ends.1, first, last)
 
--- a wide domain has all numbers between its bounds
-pub clipped_left : (box : List (List ℤ)) (x : Term) (set : List (ℤ × ℤ)) → IsDomain (term_values box x) → AreRuns set → pos 1024 ≤ℤ (term_high box x -ℤ term_low box x) → clipped (term_low box x) (term_high box x) set ≡ set_left box set x
+-- a domain that has all numbers between its bounds
+pub clipped_left : (box : List (List ℤ)) (x : Term) (set : List (ℤ × ℤ)) → IsDomain (term_values box x) → AreRuns set → HasAll (term_values box x) (term_low box x) (term_high box x) → clipped (term_low box x) (term_high box x) set ≡ set_left box set x
 unfolding set_left
-clipped_left box x set domain are wide =
+clipped_left box x set domain are whole =
     let values = term_values box x in
     let first = low_is_first box x in
     let last = high_is_last box x in
-    same_runs (clipped (term_low box x) (term_high box x) set) (runs_of (filter (in_set set) values)) (clipped_runs (term_low box x) (term_high box x) set (omega (arith, ints, wide)) are) (left_runs values set domain.rising) (λ z.
+    same_runs (clipped (term_low box x) (term_high box x) set) (runs_of (filter (in_set set) values)) (clipped_runs (term_low box x) (term_high box x) set (domain_order box x domain) are) (left_runs values set domain.rising) (λ z.
     let left = left_has values set z domain.rising in
     let clip = clipped_has (term_low box x) (term_high box x) set z in (
-      λ has. let h = clip.0 has in left.1 (domain.whole (omega (arith, ints, wide, first, last)) z (omega (arith, ints, h.1, first)) (omega (arith, ints, h.2, last)), h.0),
+      λ has. let h = clip.0 has in left.1 (whole.has z h.1 h.2, h.0),
       λ has. let h = left.0 has in let ends = between values z domain h.0 in clip.1 (h.1, omega (arith, ints, ends.0, first), omega (arith, ints, ends.1, last)),
     ))
 

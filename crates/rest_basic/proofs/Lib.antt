@@ -8,6 +8,7 @@ pub mod Members
 pub mod MemberLaw
 pub mod PlainLaw
 pub mod GatheredRuns
+pub mod WholeDomains
 pub mod MemberForm
 pub mod FitLaw
 pub mod OpenLaw

@@ -1,8 +1,8 @@
 -- The form of a member of a set, by what is left of the set.
-use Rattle.std.proofs.Common.{◌≡◌, zero, suc, List, [], ◌∷◌, refl, ap, sym, subst, ◌∙◌, arith, ℤ, Bool, true, false}
-use Rattle.std.specs.Prelude.{Contains, filter, not, if◌then◌else◌}
+use Rattle.std.proofs.Common.{◌≡◌, ℕ, ◌<◌, length, ◌≤ℤ◌, zero, suc, List, [], ◌∷◌, refl, ap, sym, subst, ◌∙◌, arith, ℤ, Bool, true, false}
+use Rattle.std.specs.Prelude.{Contains, slice_index_or, filter, not, if◌then◌else◌}
 use Rattle.std.specs.List.{list_any, list_all}
-use Rattle.std.proofs.lemmas.Bool.{false≢true}
+use Rattle.std.proofs.lemmas.Bool.{false≢true, or_parts}
 use Rattle.fzn_model.specs.declared.term.Term.{Term}
 use Rattle.fzn_model.specs.declared.base.Base.TheVariants as base
 use Rattle.fzn_model.specs.Sets.{IsIn}
@@ -15,6 +15,13 @@ use Rattle.rest_basic.specs.declared.reduced.BaseForm.TheVariants as form
 use Rattle.rest_basic.proofs.ListMembers.{filter_none}
 use Rattle.rest_basic.proofs.Members.{in_none, in_test, test_in, all_pass, left_has}
 use Rattle.rest_basic.proofs.GatheredRuns.{all_left}
+use Rattle.rest_basic.proofs.Values.{low_is_first, high_is_last}
+use Rattle.rest_basic.specs.Gathered.{HasRunOver}
+use Rattle.fzn_model.proofs.Domains.{between}
+use Rattle.fzn_model.specs.Sets.{IsWithin}
+use Rattle.fzn_model.specs.Bounds.{term_low, term_high}
+use Rattle.std.proofs.lemmas.Int.{ints}
+use Rattle.std.proofs.lemmas.List.{get_or_default}
 
 -- ---- tests of all values, and of some
 all_from : (p : ℤ → Bool) (xs : List ℤ) → ((z : ℤ) → Contains xs z → p z ≡ true) → list_all p xs ≡ true
@@ -85,3 +92,25 @@ form_left box x set left values is are differs some =
     by_both true u e f = absurd (differs (is ∙ all_same box x set e ∙ sym are))
     by_both false false e f = absurd (some (is ∙ none_empty box x set f))
     by_both false true e f = sym (by_tests box x set false true e f)
+
+-- ---- one run over all values, and none of them
+pub enclosed : (set : List (ℤ × ℤ)) (place : ℕ) (d : ℤ × ℤ) (low high : ℤ) → place < length set → (slice_index_or set place d).0 ≤ℤ low → high ≤ℤ (slice_index_or set place d).1 → HasRunOver set low high
+unfolding IsIn IsWithin
+enclosed set place d low high inside from to = record { has = λ z least most. (place, slice_index_or set place d, inside, get_or_default set place (slice_index_or set place d) d inside, (omega (arith, ints, from, least), omega (arith, ints, to, most))) }
+
+pub enclosed_form : (box : List (List ℤ)) (x : Term) (set : List (ℤ × ℤ)) (low high : ℤ) → IsDomain (term_values box x) → low ≡ term_low box x → high ≡ term_high box x → HasRunOver set low high → form.Holds ≡ form_of_member box x set
+enclosed_form box x set low high domain least greatest over =
+    sym (by_tests box x set true _ (all_from (in_set set) (term_values box x) (λ z has.
+    let ends = between (term_values box x) z domain has in
+    let first = low_is_first box x in
+    let last = high_is_last box x in
+    in_test set z (over.has z (omega (arith, ints, ends.0, first, least)) (omega (arith, ints, ends.1, last, greatest))))) refl)
+
+all_some : (p : ℤ → Bool) (xs : List ℤ) → (xs ≡ [] → ⊥) → list_any p xs ≡ false → list_all p xs ≡ false
+all_some p [] some e = absurd (some refl)
+all_some p (x ∷ xs) some e = let both = or_parts (p x) (list_any p xs) e in rw both.0 refl
+
+pub empty_form : (box : List (List ℤ)) (x : Term) (set left : List (ℤ × ℤ)) → IsDomain (term_values box x) → left ≡ set_left box set x → left ≡ [] → form.Fails ≡ form_of_member box x set
+empty_form box x set left domain is none =
+    let some = empty_none box x set domain (sym is ∙ none) _ refl in
+    sym (by_tests box x set false false (all_some (in_set set) (term_values box x) domain.some some) some)

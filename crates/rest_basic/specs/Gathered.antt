@@ -1,5 +1,5 @@
 -- Runs in the making.
-use Rattle.std.specs.Prelude.{◌≡◌, ◌↔◌, ◌⊎◌, List, map, filter, ℤ, ◌<ℤ◌, Bool, ◌&&◌, int_le, Contains}
+use Rattle.std.specs.Prelude.{◌≡◌, ◌↔◌, ◌⊎◌, List, map, filter, ℤ, ◌≤ℤ◌, ◌<ℤ◌, Bool, ◌&&◌, int_le, Contains}
 use Rattle.std.specs.Int.{int_min, int_max}
 use Rattle.fzn_model.specs.Sets.{IsIn, AreRuns}
 
@@ -7,6 +7,14 @@ use Rattle.fzn_model.specs.Sets.{IsIn, AreRuns}
 pub record Gathered (values : List ℤ) (set : List (ℤ × ℤ)) (before : ℤ) (runs : List (ℤ × ℤ)) : Type 0 where
   pub are : AreRuns runs
   pub has : (z : ℤ) → IsIn runs z ↔ (Contains values z × IsIn set z × (z <ℤ before))
+
+-- a list has each number from one to another
+pub record HasAll (values : List ℤ) (low high : ℤ) : Type 0 where
+  pub has : (z : ℤ) → low ≤ℤ z → z ≤ℤ high → Contains values z
+
+-- one run of a set has all numbers from one to another
+pub record HasRunOver (set : List (ℤ × ℤ)) (low high : ℤ) : Type 0 where
+  pub has : (z : ℤ) → low ≤ℤ z → z ≤ℤ high → IsIn set z
 
 -- runs that lie below a number
 pub record AreBelow (number : ℤ) (runs : List (ℤ × ℤ)) : Type 0 where

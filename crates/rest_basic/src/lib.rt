@@ -12,8 +12,8 @@
 //! where the constraint does ([`forms_mean_the_same`]); it names open variables and constants alone
 //! ([`forms_name_open_variables`]); and it keeps those limits too ([`forms_suit_the_box`]).
 //!
-//! What it costs: one pass over the constraint for each of its bounds and tests, and memory for what is left. For a
-//! set it cuts off the runs at the bounds of a variable without a gap; of a variable with a bitmap it goes over the
+//! What it costs: one pass over the constraint for each of its bounds and tests, and memory for what is left. The values
+//! of a variable without a gap are one run, and a set is cut off at its bounds. Of a variable with gaps it goes over the
 //! numbers between the bounds, at most 1,024, and looks each up in the set by halves.
 //!
 //! What it stands on: fzn_model for constraints and views.
@@ -45,4 +45,6 @@ pub use laws::{forms_mean_the_same, forms_name_open_variables, forms_suit_the_bo
 pub use plain::reduce_plain;
 pub use reduced::Reduced;
 pub use runs::runs_of_values;
-pub use view::{any_open_in, can_have, high_of, is_open_in, low_of, open_terms_in, substituted_in};
+pub use view::{
+    any_open_in, can_have, high_of, is_open_in, low_of, open_terms_in, size_of, substituted_in,
+};

@@ -7,9 +7,9 @@ ghost use Rattle.fzn_model.specs.Boxes.{IsDomain};
 ghost use Rattle.fzn_model.specs.Bounds.{term_low, term_high};
 ghost use Rattle.fzn_model.specs.Grouping.{runs_of};
 ghost use Rattle.rest_basic.specs.Forms.{term_values, set_left};
-ghost use Rattle.rest_basic.specs.Gathered.{Gathered, AreBelow, IsAdded, meets, cut, clipped};
+ghost use Rattle.rest_basic.specs.Gathered.{Gathered, AreBelow, IsAdded, HasAll, meets, cut, clipped};
 
-use crate::view::{can_have, high_of, low_of};
+use crate::view::{can_have, high_of, low_of, size_of};
 use fzn_model::{BoxView, List, Runs, Term};
 use std::alloc::{AllocError, Global};
 
@@ -151,7 +151,7 @@ fn clipped(
 
 /// The least and the greatest value of a term.
 #[tactic(auto, using(crate::proofs::GatheredRuns::domain_order))]
-fn bounds_of<V: BoxView>(x: Term, view: &V) -> (i64, i64)
+pub(crate) fn bounds_of<V: BoxView>(x: Term, view: &V) -> (i64, i64)
     requires { TermIn (length (V.shape view.now)) x }
     ensures low { result.0 ≡ term_low (V.shape view.now) x }
     ensures high { result.1 ≡ term_high (V.shape view.now) x }
@@ -163,13 +163,46 @@ fn bounds_of<V: BoxView>(x: Term, view: &V) -> (i64, i64)
     (low_of(x, view), high_of(x, view))
 }
 
-/// Whether a variable with these bounds has no gap.
+/// Whether no number lies between the bounds.
+fn is_near(bounds: &(i64, i64)) -> bool
+    requires low { IsValue bounds.now.0 }
+    requires high { IsValue bounds.now.1 }
+    ensures { IsTrue result ↔ ((bounds.now.1 -ℤ bounds.now.0) ≤ℤ pos 1) }
+{
+    bounds.1 - bounds.0 <= 1
+}
+
+/// Whether a variable with these bounds has no gap, whatever its values are.
 fn is_wide(bounds: &(i64, i64)) -> bool
     requires low { IsValue bounds.now.0 }
     requires high { IsValue bounds.now.1 }
     ensures { IsTrue result ↔ (pos 1024 ≤ℤ (bounds.now.1 -ℤ bounds.now.0)) }
 {
     bounds.1 - bounds.0 >= WIDE
+}
+
+/// Whether the term has as many values as there are numbers from the one bound to the other.
+fn is_full<V: BoxView>(x: Term, bounds: &(i64, i64), view: &V) -> bool
+    requires term { TermIn (length (V.shape view.now)) x }
+    requires low { IsValue bounds.now.0 }
+    requires high { IsValue bounds.now.1 }
+    ensures { IsTrue result ↔ ((bounds.now.1 -ℤ bounds.now.0) <ℤ pos (length (term_values (V.shape view.now) x))) }
+{
+    i128::from(bounds.1 - bounds.0) < i128::from(size_of(x, view))
+}
+
+/// Whether the values of a term with these bounds have no gap.
+#[tactic(auto, using(crate::proofs::WholeDomains::near_whole, crate::proofs::WholeDomains::wide_whole, crate::proofs::WholeDomains::full_whole))]
+fn is_whole<V: BoxView>(x: Term, bounds: &(i64, i64), view: &V) -> bool
+    requires term { TermIn (length (V.shape view.now)) x }
+    requires well_formed { IsDomain (term_values (V.shape view.now) x) }
+    requires low { bounds.now.0 ≡ term_low (V.shape view.now) x }
+    requires high { bounds.now.1 ≡ term_high (V.shape view.now) x }
+    requires small_low { IsValue bounds.now.0 }
+    requires small_high { IsValue bounds.now.1 }
+    ensures { IsTrue result → HasAll (term_values (V.shape view.now) x) bounds.now.0 bounds.now.1 }
+{
+    is_near(bounds) || is_wide(bounds) || is_full(x, bounds, view)
 }
 
 /// The numbers of a set that a term can have, where its values have no gap.
@@ -184,7 +217,7 @@ fn set_between<V: BoxView>(
     requires well_formed { IsDomain (term_values (V.shape view.now) x) }
     requires low { bounds.now.0 ≡ term_low (V.shape view.now) x }
     requires high { bounds.now.1 ≡ term_high (V.shape view.now) x }
-    requires wide { pos 1024 ≤ℤ (bounds.now.1 -ℤ bounds.now.0) }
+    requires whole { HasAll (term_values (V.shape view.now) x) bounds.now.0 bounds.now.1 }
     ensures { IfOk result (λ left. left ≡ set_left (V.shape view.now) set.now x) }
 {
     Ok(Runs {
@@ -203,7 +236,7 @@ pub(crate) fn set_left<V: BoxView>(
     ensures { IfOk result (λ left. left ≡ set_left (V.shape view.now) set.now x) }
 {
     let bounds = bounds_of(x, view);
-    if is_wide(&bounds) {
+    if is_whole(x, &bounds, view) {
         return set_between(alloc, x, set, &bounds, view);
     }
     gather(alloc, x, set, bounds.0, bounds.1 + 1, view)
@@ -219,14 +252,72 @@ fn one_run(alloc: Global, run: (i64, i64)) -> Result<Runs, AllocError>
     Ok(Runs { runs })
 }
 
-/// The values of a term in the box, as runs. The one error is that memory runs out.
-#[tactic(auto, using(crate::proofs::GatheredRuns::whole_left))]
+/// Whether the term can have the number.
+fn is_value<V: BoxView>(x: Term, number: &i64, view: &V) -> bool
+    requires { TermIn (length (V.shape view.now)) x }
+    ensures { IsTrue result ↔ Contains (term_values (V.shape view.now) x) number.now }
+{
+    can_have(x, *number, view)
+}
+
+/// Adds the next number where the term can have it.
+#[tactic(auto, using(crate::proofs::GatheredRuns::are_below, crate::proofs::WholeDomains::passed_value))]
+fn gather_value<V: BoxView>(
+    runs: &mut Vec<(i64, i64)>,
+    x: Term,
+    bounds: &(i64, i64),
+    number: &i64,
+    view: &V,
+) -> Result<(), AllocError>
+    requires term { TermIn (length (V.shape view.now)) x }
+    requires well_formed { IsDomain (term_values (V.shape view.now) x) }
+    requires low { bounds.now.0 ≡ term_low (V.shape view.now) x }
+    requires high { bounds.now.1 ≡ term_high (V.shape view.now) x }
+    requires runs { Gathered (term_values (V.shape view.now) x) (bounds.now ∷ []) number.now runs.old.items }
+    ensures { OnOk result (Gathered (term_values (V.shape view.now) x) (bounds.now ∷ []) (number.now +ℤ pos 1) runs.new.items) }
+{
+    if is_value(x, number, view) {
+        add_greatest(runs, number)?;
+    }
+    Ok(())
+}
+
+/// The values of a term with these bounds, the least as `low` again, and `end` one more than the greatest.
+fn gather_values<V: BoxView>(
+    alloc: Global,
+    x: Term,
+    bounds: &(i64, i64),
+    low: i64,
+    end: i64,
+    view: &V,
+) -> Result<Runs, AllocError>
+    requires term { TermIn (length (V.shape view.now)) x }
+    requires well_formed { IsDomain (term_values (V.shape view.now) x) }
+    requires least { bounds.now.0 ≡ term_low (V.shape view.now) x }
+    requires greatest { bounds.now.1 ≡ term_high (V.shape view.now) x }
+    requires low { low ≡ term_low (V.shape view.now) x }
+    requires end { term_high (V.shape view.now) x <ℤ end }
+    ensures { IfOk result (λ values. values ≡ runs_of (term_values (V.shape view.now) x)) }
+{
+    let mut runs = Vec::new(alloc);
+    for number in low..end {
+        gather_value(&mut runs, x, bounds, &number, view)?;
+    }
+    Ok(Runs {
+        runs: List::from_vec(runs),
+    })
+}
+
+/// The values of a term in the box, as runs. Without a gap they are one run, which takes no walk over them; else each
+/// number from the least to the greatest is asked for. The one error is that memory runs out.
 pub fn runs_of_values<V: BoxView>(alloc: Global, x: Term, view: &V) -> Result<Runs, AllocError>
     requires { TermIn (length (V.shape view.now)) x }
     ensures { IfOk result (λ values. values ≡ runs_of (term_values (V.shape view.now) x)) }
 {
     let bounds = bounds_of(x, view);
-    let whole = one_run(alloc, bounds)?;
-    let values = set_left(alloc, x, &whole, view)?;
-    Ok(values)
+    if is_whole(x, &bounds, view) {
+        let values = one_run(alloc, bounds)?;
+        return Ok(values);
+    }
+    gather_values(alloc, x, &bounds, bounds.0, bounds.1 + 1, view)
 }

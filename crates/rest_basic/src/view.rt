@@ -69,6 +69,18 @@ pub fn can_have<V: BoxView>(term: Term, value: i64, view: &V) -> bool
     }
 }
 
+/// How many values the term has in the box.
+#[tactic(auto, unfolding(crate::specs::Forms::term_values))]
+pub fn size_of<V: BoxView>(term: Term, view: &V) -> u64
+    requires { TermIn (length (V.shape view.now)) term }
+    ensures { result ≡ length (term_values (V.shape view.now) term) }
+{
+    match term {
+        Term::Const(_) => 1,
+        Term::Var(var) => view.size(var),
+    }
+}
+
 /// Whether some term of a list is open.
 #[tactic(auto, unfolding(crate::specs::Forms::any_open))]
 pub fn any_open_in<V: BoxView>(terms: &[Term], view: &V) -> bool

@@ -1,17 +1,17 @@
 -- What is left of values that differ holds exactly where the constraint does, names open variables alone, and keeps the
 -- limits.
 use Rattle.std.proofs.Common.{◌≡◌, zero, suc, ◌+◌, ◌≤◌, List, [], ◌∷◌, ◌++◌, length, map, refl, sym, ap, subst, ◌∙◌, arith, ℤ, Bool, true, false, inl, inr, ◌⊎◌}
-use Rattle.std.specs.Prelude.{All, AllPairs, Contains, ◌↔◌, ◌||◌, ◌&&◌, not, if◌then◌else◌, filter, slice_index_or, ⊤}
+use Rattle.std.specs.Prelude.{All, AllPairs, Contains, ◌↔◌, ◌||◌, ◌&&◌, not, if◌then◌else◌, filter, slice_index_or}
 use Rattle.std.specs.Ordering.{int_eq, int_cmp}
-use Rattle.std.specs.List.{list_any}
-use Rattle.std.proofs.lemmas.Bool.{false≢true, or_parts}
-use Rattle.std.proofs.lemmas.Bool.Decides.{Decides-int_eq}
+use Rattle.std.specs.List.{list_any, IsDistinct}
+use Rattle.std.proofs.lemmas.Bool.{false≢true}
+use Rattle.std.proofs.lemmas.Cmp.{int_eq_equiv}
 use Rattle.std.proofs.lemmas.List.{length-append, map-append}
 use Rattle.std.proofs.lemmas.List.Elements.{All-contains, All-contains_itself, All-weaker, All-append, Contains-append_cases, Contains-append_left, Contains-append_right, Contains-get_or}
 use Rattle.std.proofs.lemmas.List.Folds.{list_any-from_Any}
-use Rattle.std.proofs.lemmas.List.Sorted.{Contains-permutation}
+use Rattle.std.proofs.lemmas.List.Sorted.{Contains-permutation, IsPermutation-map}
 use Rattle.std.proofs.lemmas.List.Filters.{length-filter_both}
-use Rattle.std.proofs.lemmas.Map.Keys.{apart_from_distinct, IsDistinct-from_apart, IsDistinct-IsPermutation}
+use Rattle.std.proofs.lemmas.Map.Keys.{IsDistinct-tail, IsDistinct-IsPermutation}
 use Rattle.std.specs.List.Sorted.{IsPermutation}
 use Rattle.fzn_model.specs.declared.term.Term.{Term}
 use Rattle.fzn_model.specs.declared.con.Con.{Con}
@@ -21,102 +21,47 @@ use Rattle.fzn_model.specs.Limits.{IsValue, TermIn, ConInLimits, of_model}
 use Rattle.fzn_model.specs.Boxes.{IsBox, InBox}
 use Rattle.fzn_model.specs.Bounds.{term_low, is_open}
 use Rattle.fzn_model.specs.Booleans.{FitsBox}
+use Rattle.fzn_model.proofs.Pigeons.{distinct_none, distinct_more, distinct_first}
 use Rattle.rest_basic.specs.Forms.{open_terms, empty_clause}
 use Rattle.rest_basic.specs.Equivalence.{FormHolds, NamesOpen}
 use Rattle.rest_basic.specs.declared.reduced.Reduced.{Reduced}
 use Rattle.rest_basic.specs.declared.reduced.Reduced.TheVariants as reduced
 use Rattle.rest_basic.proofs.TermsInBox.{value_among}
 use Rattle.rest_forms.specs.Forms.{fixed_values, term_has, open_has, has_twice, share_one, is_decided, rising_by, taken_left, all_different_form}
-use Rattle.rest_forms.proofs.ValueTests.{alike, among_test, test_among, or_either, term_has_is, fixed_within}
-use Rattle.rest_basic.proofs.ListMembers.{has_first, has_later, has_cases, has_no, filter_passed, filter_kept, filter_has, map_has, map_from}
+use Rattle.rest_forms.proofs.ValueTests.{term_has_is, fixed_within}
+use Rattle.rest_forms.proofs.DistinctNumbers.{AreApart, distinct_both, distinct_parts, twice_distinct, distinct_twice, share_some, some_share}
+use Rattle.rest_basic.proofs.ListMembers.{has_first, has_later, has_no, filter_passed, filter_kept, filter_has, map_has, map_from}
 use Rattle.rest_forms.proofs.OpenAndFixed.{fixed_terms, parted, joined, fixed_is, fewer}
 use Rattle.rest_forms.proofs.RisingLists.{rising_count, numbers_have}
 use Rattle.rest_basic.proofs.Substituting.{FormIsOpen, FormIsFit, never_holds, one_open, always_open, never_open, terms_left, one_fine, always_fine, never_fine, open_in}
 
--- ---- values that differ, by recursion
-abbrev Differ : List ℤ → Type 0
-Differ [] = ⊤
-Differ (z ∷ zs) = (Contains zs z → ⊥) × Differ zs
-
+-- ---- values that differ, of terms
 abbrev values : List Term → List ℤ → List ℤ
 values ts θ = map (λ t. val t θ) ts
-
-twice_differ : (zs : List ℤ) → has_twice zs ≡ false → Differ zs
-twice_differ [] e = tt
-twice_differ (z ∷ zs) e =
-    let none = or_parts (list_any (int_eq z) zs) (has_twice zs) e in
-    ((λ has. false≢true (sym none.0 ∙ among_test z zs has)), twice_differ zs none.1)
-
-differ_twice : (zs : List ℤ) → Differ zs → has_twice zs ≡ true → ⊥
-differ_twice [] differ e = false≢true e
-differ_twice (z ∷ zs) differ e = elim ((or_either (list_any (int_eq z) zs) (has_twice zs)).0 e) [
-  | inl here ↦ differ.0 (test_among z zs here)
-  | inr later ↦ differ_twice zs differ.1 later
-]
-
--- two lists one after the other differ where each does, and they share none
-record Apart (xs ys : List ℤ) : Type 0 where
-  apart : (z : ℤ) → Contains xs z → Contains ys z → ⊥
-
-differ_both : (xs ys : List ℤ) → Differ xs → Differ ys → Apart xs ys → Differ (xs ++ ys)
-differ_both [] ys dx dy none = dy
-differ_both (x ∷ xs) ys dx dy none = (
-  (λ has. elim (Contains-append_cases xs ys x has) [ inl a ↦ dx.0 a | inr b ↦ none.apart x (has_first x xs x refl) b ]),
-  differ_both xs ys dx.1 dy (record { apart = λ z a b. none.apart z (has_later x xs z a) b }),
-)
-
-differ_parts : (xs ys : List ℤ) → Differ (xs ++ ys) → Differ xs × Differ ys × Apart xs ys
-differ_parts [] ys d = (tt, d, record { apart = λ z a b. has_no z a })
-differ_parts (x ∷ xs) ys d =
-    let rest = differ_parts xs ys d.1 in (
-      ((λ a. d.0 (Contains-append_left xs ys x a)), rest.0),
-      rest.1,
-      record {
-        apart = λ z a b. elim (has_cases x xs z a) [
-          | inl is ↦ d.0 (Contains-append_right xs ys x (subst (λ (w : ℤ). Contains ys w) (sym is) b))
-          | inr later ↦ rest.2.apart z later b
-        ];
-      },
-    )
-
--- ---- values that differ, of terms
-same_value : List ℤ → Term → Term → Bool
-same_value θ x y = int_eq (val x θ) (val y θ)
-
-flips : (a b : ℤ) → int_eq a b ≡ int_eq b a
-flips a b = alike (int_eq a b) (int_eq b a) (λ e. (Decides-int_eq b a).1 (sym ((Decides-int_eq a b).0 e))) (λ e. (Decides-int_eq a b).1 (sym ((Decides-int_eq b a).0 e)))
 
 record Distinct (ts : List Term) (θ : List ℤ) : Type 0 where
   pairs : AllPairs (λ x y. val x θ ≡ val y θ → ⊥) ts
 
-not_same : (a b : ℤ) → (a ≡ b → ⊥) → (t : Bool) → int_eq a b ≡ t → int_eq a b ≡ false
-not_same a b apart true e = absurd (apart ((Decides-int_eq a b).0 e))
-not_same a b apart false e = e
+pairs_differ : (ts : List Term) (θ : List ℤ) → Distinct ts θ → IsDistinct int_eq (values ts θ)
+pairs_differ [] θ distinct = distinct_none
+pairs_differ (t ∷ ts) θ distinct =
+    distinct_more (val t θ) (values ts θ)
+    (λ has. let (u, (k, h, at), is) = map_from (λ x. val x θ) ts (val t θ) has in
+    distinct.pairs zero (suc k) u (omega arith) (omega (arith, h)) (sym is ∙ ap (λ (x : Term). val x θ) (sym at)))
+    (pairs_differ ts θ (record { pairs = λ i j d lt h. distinct.pairs (suc i) (suc j) d (omega (arith, lt)) (omega (arith, h)) }))
 
-distinct_moved : (ts us : List Term) (θ : List ℤ) → IsPermutation ts us → Distinct ts θ → Distinct us θ
-unfolding same_value
-distinct_moved ts us θ moved distinct =
-    let one = IsDistinct-from_apart (same_value θ) ts (λ i j d lt h. not_same (val (slice_index_or ts i d) θ) (val (slice_index_or ts j d) θ) (distinct.pairs i j d lt h) (int_eq (val (slice_index_or ts i d) θ) (val (slice_index_or ts j d) θ)) refl) in
-    let other = IsDistinct-IsPermutation (same_value θ) (λ x y. flips (val x θ) (val y θ)) ts us moved one in
-    record { pairs = λ i j d lt h is. false≢true (sym (apart_from_distinct (same_value θ) us i j d other lt h) ∙ (Decides-int_eq (val (slice_index_or us i d) θ) (val (slice_index_or us j d) θ)).1 is) }
-
-pairs_differ : (ts : List Term) (θ : List ℤ) → Distinct ts θ → Differ (values ts θ)
-pairs_differ [] θ distinct = tt
-pairs_differ (t ∷ ts) θ distinct = (
-  (λ has. let (u, (k, h, at), is) = map_from (λ x. val x θ) ts (val t θ) has in
-      distinct.pairs zero (suc k) u (omega arith) (omega (arith, h)) (sym is ∙ ap (λ (x : Term). val x θ) (sym at))),
-  pairs_differ ts θ (record { pairs = λ i j d lt h. distinct.pairs (suc i) (suc j) d (omega (arith, lt)) (omega (arith, h)) }),
-)
-
-differ_pairs : (ts : List Term) (θ : List ℤ) → Differ (values ts θ) → Distinct ts θ
+differ_pairs : (ts : List Term) (θ : List ℤ) → IsDistinct int_eq (values ts θ) → Distinct ts θ
 differ_pairs [] θ differ = record { pairs = λ i j d lt h. absurd (omega (arith, h)) }
-differ_pairs (t ∷ ts) θ differ = record { pairs = pairs (differ_pairs ts θ differ.1) }
+differ_pairs (t ∷ ts) θ differ = record { pairs = pairs (differ_pairs ts θ (IsDistinct-tail int_eq (val t θ) (values ts θ) differ)) }
   where
     pairs : Distinct ts θ → AllPairs (λ x y. val x θ ≡ val y θ → ⊥) (t ∷ ts)
     pairs rest zero zero d lt h is = omega (arith, lt)
-    pairs rest zero (suc j) d lt h is = differ.0 (subst (λ (z : ℤ). Contains (values ts θ) z) (sym is) (map_has (λ x. val x θ) ts (slice_index_or ts j d) (Contains-get_or ts j d (omega (arith, h)))))
+    pairs rest zero (suc j) d lt h is = distinct_first (val t θ) (values ts θ) differ (subst (λ (z : ℤ). Contains (values ts θ) z) (sym is) (map_has (λ x. val x θ) ts (slice_index_or ts j d) (Contains-get_or ts j d (omega (arith, h)))))
     pairs rest (suc i) zero d lt h is = omega (arith, lt)
     pairs rest (suc i) (suc j) d lt h is = rest.pairs i j d (omega (arith, lt)) (omega (arith, h)) is
+
+differ_moved : (ts us : List Term) (θ : List ℤ) → IsPermutation ts us → IsDistinct int_eq (values ts θ) → IsDistinct int_eq (values us θ)
+differ_moved ts us θ moved = IsDistinct-IsPermutation int_eq int_eq_equiv.symm (values ts θ) (values us θ) (IsPermutation-map (λ t. val t θ) ts us moved)
 
 -- ---- the open terms and the fixed ones
 same_on : {X : Type 0} (f g : X → ℤ) (xs : List X) → ((x : X) → Contains xs x → f x ≡ g x) → map f xs ≡ map g xs
@@ -127,9 +72,9 @@ same_on f g (x ∷ xs) same =
     (cc)
 
 record Splits (box : List (List ℤ)) (ts : List Term) (θ : List ℤ) : Type 0 where
-  opens : Differ (values (open_terms box ts) θ)
-  fixed : Differ (fixed_values box ts)
-  apart : Apart (values (open_terms box ts) θ) (fixed_values box ts)
+  opens : IsDistinct int_eq (values (open_terms box ts) θ)
+  fixed : IsDistinct int_eq (fixed_values box ts)
+  apart : AreApart (values (open_terms box ts) θ) (fixed_values box ts)
 
 module _ (box : List (List ℤ)) (ts : List Term) (θ : List ℤ) (well_formed : IsBox box) (lies : InBox box θ) (inside : All (TermIn (length box)) ts) where
   all_values : values (open_terms box ts ++ fixed_terms box ts) θ ≡ values (open_terms box ts) θ ++ fixed_values box ts
@@ -138,29 +83,14 @@ module _ (box : List (List ℤ)) (ts : List Term) (θ : List ℤ) (well_formed :
 
   distinct_splits : Distinct ts θ → Splits box ts θ
   distinct_splits distinct =
-      let whole = subst Differ all_values (pairs_differ (open_terms box ts ++ fixed_terms box ts) θ (distinct_moved ts (open_terms box ts ++ fixed_terms box ts) θ (parted box ts) distinct)) in
-      let parts = differ_parts (values (open_terms box ts) θ) (fixed_values box ts) whole in
+      let whole = subst (IsDistinct int_eq) all_values (differ_moved ts (open_terms box ts ++ fixed_terms box ts) θ (parted box ts) (pairs_differ ts θ distinct)) in
+      let parts = distinct_parts (values (open_terms box ts) θ) (fixed_values box ts) whole in
       record { opens = parts.0; fixed = parts.1; apart = parts.2 }
 
   splits_distinct : Splits box ts θ → Distinct ts θ
   splits_distinct splits =
-      let whole = differ_both (values (open_terms box ts) θ) (fixed_values box ts) splits.opens splits.fixed splits.apart in
-      distinct_moved (open_terms box ts ++ fixed_terms box ts) ts θ (joined box ts) (differ_pairs (open_terms box ts ++ fixed_terms box ts) θ (subst Differ (sym all_values) whole))
-
--- ---- numbers in common
-share_some : (zs ys : List ℤ) → share_one zs ys ≡ true → (z : ℤ) × Contains zs z × Contains ys z
-share_some [] ys e = absurd (false≢true e)
-share_some (z ∷ zs) ys e = elim ((or_either (list_any (int_eq z) ys) (share_one zs ys)).0 e) [
-  | inl here ↦ (z, has_first z zs z refl, test_among z ys here)
-  | inr later ↦ let (w, one, other) = share_some zs ys later in (w, has_later z zs w one, other)
-]
-
-some_share : (zs ys : List ℤ) (z : ℤ) → Contains zs z → Contains ys z → share_one zs ys ≡ true
-some_share [] ys z one other = absurd (has_no z one)
-some_share (x ∷ xs) ys z one other = (or_either (list_any (int_eq x) ys) (share_one xs ys)).1 (elim (has_cases x xs z one) [
-  | inl is ↦ inl (among_test x ys (subst (λ (w : ℤ). Contains ys w) (sym is) other))
-  | inr later ↦ inr (some_share xs ys z later other)
-])
+      let whole = distinct_both (values (open_terms box ts) θ) (fixed_values box ts) splits.opens splits.fixed splits.apart in
+      differ_pairs ts θ (differ_moved (open_terms box ts ++ fixed_terms box ts) ts θ (joined box ts) (subst (IsDistinct int_eq) (sym all_values) whole))
 
 -- ---- the taken numbers that are left
 open_has_it : (box : List (List ℤ)) (xs : List Term) (θ : List ℤ) → InBox box θ → All (TermIn (length box)) xs → (t : Term) → Contains (open_terms box xs) t → open_has box xs (val t θ) ≡ true
@@ -219,7 +149,7 @@ module _ (box : List (List ℤ)) (xs : List Term) (taken : List ℤ) (θ : List 
 
   -- a clash makes it fail
   twice_fails : has_twice (fixed_values box xs) ≡ true → AllHold xs taken θ → ⊥
-  twice_fails e all = differ_twice (fixed_values box xs) (distinct_splits box xs θ well_formed lies inside all.distinct).fixed e
+  twice_fails e all = false≢true (sym (distinct_twice (fixed_values box xs) (distinct_splits box xs θ well_formed lies inside all.distinct).fixed) ∙ e)
 
   share_fails : share_one (fixed_values box xs) taken ≡ true → AllHold xs taken θ → ⊥
   share_fails e all =
@@ -244,7 +174,7 @@ module _ (box : List (List ℤ)) (xs : List Term) (taken : List ℤ) (θ : List 
   all_of_left twice share left = record {
     distinct = splits_distinct box xs θ well_formed lies inside (record {
       opens = pairs_differ (open_terms box xs) θ left.distinct;
-      fixed = twice_differ (fixed_values box xs) twice;
+      fixed = twice_distinct (fixed_values box xs) twice;
       apart = record {
         apart = λ z a b. let (t, has, is) = map_from (λ x. val x θ) (open_terms box xs) z a in
             left.untaken.free t has ((left_iff box xs taken θ lies inside t has).1 (inr (subst (λ (w : ℤ). Contains (fixed_values box xs) w) (sym is) b)));

@@ -25,10 +25,11 @@ use Rattle.rest_basic.specs.declared.reduced.Reduced.{Reduced}
 use Rattle.rest_basic.specs.declared.reduced.Reduced.TheVariants as reduced
 use Rattle.rest_basic.proofs.Substituting.{low_is, FormFitsBox, substituted_in, never_fine, truth_fine}
 use Rattle.rest_basic.proofs.ListMembers.{filter_shorter}
+use Rattle.fzn_model.proofs.Moments.{part_over}
 use Rattle.rest_forms.specs.Forms.{AreRunsOf, is_open_task, open_tasks, substituted_task, fixed_use, all_used, some_negative, peak, always_fits, all_fixed, IsCumulativeLeft, IsCumulativeForm}
 use Rattle.rest_forms.specs.Sweep.{part_at}
 use Rattle.rest_forms.specs.Tasks.{TaskIn, is_fixed_task}
-use Rattle.rest_forms.proofs.JoinedRuns.{Follows, Chain, chain_of, begins_after, all_begin, later_all, part_over}
+use Rattle.rest_forms.proofs.JoinedRuns.{Follows, Chain, chain_of, begins_after, all_begin, later_all}
 use Rattle.rest_forms.proofs.Peaks.{part_small}
 use Rattle.rest_forms.proofs.Tasks.{all_count}
 use Rattle.rest_forms.proofs.CumulativeUnique.{first_amount, before_first, other_after, left_by}

@@ -12,9 +12,10 @@ use Rattle.fzn_model.specs.Bounds.{term_low}
 use Rattle.rest_basic.specs.Forms.{substituted, empty_clause, of_truth}
 use Rattle.rest_basic.specs.declared.reduced.Reduced.{Reduced}
 use Rattle.rest_basic.specs.declared.reduced.Reduced.TheVariants as reduced
+use Rattle.fzn_model.proofs.Moments.{part_over, part_within, amount_later}
 use Rattle.rest_forms.specs.Forms.{AreRunsOf, open_tasks, substituted_task, all_used, some_negative, peak, always_fits, all_fixed, IsCumulativeLeft, IsCumulativeForm}
 use Rattle.rest_forms.specs.Sweep.{part_at}
-use Rattle.rest_forms.proofs.JoinedRuns.{Chain, chain_of, all_begin, later_all, before_all, part_over, part_within}
+use Rattle.rest_forms.proofs.JoinedRuns.{Chain, chain_of, all_begin, later_all}
 use Rattle.rest_forms.proofs.Peaks.{later_idle}
 
 -- ---- what runs use at their ends
@@ -27,7 +28,7 @@ first_amount u us t chain from to =
 
 -- before the first nothing
 pub before_first : (u : Used) (us : List Used) (t : ℤ) → Chain (u ∷ us) → t <ℤ u.from → amount_at (u ∷ us) t ≡ pos 0
-before_first u us t chain h = before_all (u ∷ us) t (later_all u.from t (u ∷ us) h (all_begin u.from (u ∷ us) (omega (arith, ints)) chain))
+before_first u us t chain h = amount_later (u ∷ us) t (later_all u.from t (u ∷ us) h (all_begin u.from (u ∷ us) (omega (arith, ints)) chain))
 
 -- where the first ends, other than its amount
 pub other_after : (u : Used) (us : List Used) → Chain (u ∷ us) → amount_at us u.to ≡ u.amount → ⊥

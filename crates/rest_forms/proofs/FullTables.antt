@@ -7,18 +7,19 @@ use Rattle.std.specs.Cmp.Lexicographic.{slice_cmp}
 use Rattle.std.specs.List.{list_any, AllByRecursion, IsDistinct}
 use Rattle.std.specs.List.Sorted.{IsStrictlySortedBy}
 use Rattle.std.proofs.Math.Nat.{mul-le-mul, div-mul-le_self}
-use Rattle.std.proofs.lemmas.Bool.{false≢true, or_parts}
+use Rattle.std.proofs.lemmas.Bool.{false≢true, false_from_ne_true}
 use Rattle.std.proofs.lemmas.Bool.Decides.{Decides-int_eq, Decides-eqb}
-use Rattle.std.proofs.lemmas.Cmp.{int_eq_equiv, tied_itself}
+use Rattle.std.proofs.lemmas.Cmp.{tied_itself}
 use Rattle.std.proofs.lemmas.Int.{ints}
 use Rattle.std.proofs.lemmas.List.{length-map, length-drop, length-take-le}
 use Rattle.std.proofs.lemmas.List.Elements.{All-contains, All-contains_itself, All-weaker, Contains-append_cases}
 use Rattle.std.proofs.lemmas.List.Folds.{Any-from_list_any, list_any-from_Any}
 use Rattle.std.proofs.lemmas.Map.Keys.{sorted_head, sorted_tail, IsDistinct-cons}
-use Rattle.std.proofs.lemmas.Map.Made.{length-le_from_is_member, IsDistinct-from_AllPairs}
+use Rattle.std.proofs.lemmas.Map.Made.{IsDistinct-from_AllPairs}
 use Rattle.fzn_model.specs.declared.term.Term.{Term}
 use Rattle.fzn_model.specs.Boxes.{IsDomain}
 use Rattle.fzn_model.specs.Bounds.{is_open}
+use Rattle.fzn_model.proofs.Pigeons.{distinct_none, pigeons, pigeons_fill}
 use Rattle.rest_basic.specs.Forms.{open_terms, term_values}
 use Rattle.rest_forms.specs.Forms.{term_has, is_possible, open_entries, row_at, rows_below, rows_possible, rows_left, is_full, are_some}
 use Rattle.rest_forms.specs.Rows.{AreRowsOver}
@@ -102,18 +103,9 @@ pub rows_over : (box : List (List ℤ)) (xs members : List Term) (rows : List �
 rows_over box xs members rows left one other = rw (one, other) (left_over box xs rows)
 
 -- ---- numbers that differ, as many as some values
-pigeons : (xs ys : List ℤ) → IsDistinct int_eq xs → ((z : ℤ) → Contains xs z → Contains ys z) → length xs ≤ length ys
-pigeons xs ys distinct within = length-le_from_is_member int_eq_equiv xs ys distinct (λ q e. among_test q ys (within q (test_among q xs e)))
-
-none_equal : (z : ℤ) (xs : List ℤ) → list_any (int_eq z) xs ≡ false → AllByRecursion (λ y. int_eq z y ≡ false) xs
-none_equal z [] e = tt
-none_equal z (x ∷ xs) e = let both = or_parts (int_eq z x) (list_any (int_eq z) xs) e in (both.0, none_equal z xs both.1)
-
 filled : (xs ys : List ℤ) (z : ℤ) → IsDistinct int_eq xs → ((w : ℤ) → Contains xs w → Contains ys w) → length ys ≤ length xs → Contains ys z → (t : Bool) → list_any (int_eq z) xs ≡ t → Contains xs z
 filled xs ys z distinct within many has true e = test_among z xs e
-filled xs ys z distinct within many has false e =
-    let more = pigeons (z ∷ xs) ys (IsDistinct-cons int_eq z xs (none_equal z xs e) distinct) (λ w h. elim (has_cases z xs w h) [ inl is ↦ subst (λ (y : ℤ). Contains ys y) is has | inr later ↦ within w later ]) in
-    absurd (omega (arith, more, many))
+filled xs ys z distinct within many has false e = absurd (pigeons_fill xs ys z distinct within many has (λ h. false≢true (sym e ∙ among_test z xs h)))
 
 -- ---- rows of one column
 abbrev head : List ℤ → ℤ
@@ -127,14 +119,10 @@ one_entry [] h = absurd (omega (arith, h))
 one_entry (z ∷ []) h = refl
 one_entry (z ∷ y ∷ zs) h = absurd (omega (arith, h))
 
-differ_by : (a b : ℤ) → (a ≡ b → ⊥) → (t : Bool) → int_eq a b ≡ t → int_eq a b ≡ false
-differ_by a b apart true e = absurd (apart ((Decides-int_eq a b).0 e))
-differ_by a b apart false e = e
-
 heads_differ : (row : List ℤ) (rows : List (List ℤ)) → row ≡ head row ∷ [] → AreSingle rows → AllByRecursion (λ other. slice_cmp int_cmp row other ≡ Less) rows → AllByRecursion (λ y. int_eq (head row) y ≡ false) (map head rows)
 heads_differ row [] one single below = tt
 heads_differ row (other ∷ rows) one single (less, below) = (
-  differ_by (head row) (head other) (λ same. same_row (one ∙ ap (λ (z : ℤ). z ∷ []) same ∙ sym (single.single other (has_first other rows other refl)))) (int_eq (head row) (head other)) refl,
+  false_from_ne_true (int_eq (head row) (head other)) (λ e. same_row (one ∙ ap (λ (z : ℤ). z ∷ []) ((Decides-int_eq (head row) (head other)).0 e) ∙ sym (single.single other (has_first other rows other refl)))),
   heads_differ row rows one (record { single = λ r has. single.single r (has_later other rows r has) }) below,
 )
   where
@@ -144,12 +132,8 @@ heads_differ row (other ∷ rows) one single (less, below) = (
     same_row : row ≡ other → ⊥
     same_row same = not_less (sym (tied_itself rows_total row) ∙ subst (λ (r : List ℤ). slice_cmp int_cmp row r ≡ Less) (sym same) less)
 
-no_heads : IsDistinct int_eq []
-unfolding IsDistinct
-no_heads = tt
-
 heads_distinct : (rows : List (List ℤ)) → IsStrictlySortedBy (slice_cmp int_cmp) rows → AreSingle rows → IsDistinct int_eq (map head rows)
-heads_distinct [] sorted single = no_heads
+heads_distinct [] sorted single = distinct_none
 heads_distinct (row ∷ rows) sorted single =
     let rest : AreSingle rows = record { single = λ r has. single.single r (has_later row rows r has) } in
     IsDistinct-cons int_eq (head row) (map head rows)

@@ -7,7 +7,7 @@ use Rattle.std.proofs.lemmas.List.Elements.{All-tail, recursion_from_All, All-fr
 use Rattle.std.proofs.lemmas.List.Kept.{AllPairs-cons}
 use Rattle.fzn_model.specs.declared.cumulative.Used.{Used}
 use Rattle.fzn_model.specs.Meaning.{amount_at}
-use Rattle.fzn_model.proofs.Moments.{amount_append}
+use Rattle.fzn_model.proofs.Moments.{amount_append, amount_over}
 use Rattle.rest_forms.specs.Forms.{AreUsedRuns}
 use Rattle.rest_forms.specs.Sweep.{part_at, CanJoin, IsJoined}
 
@@ -83,37 +83,17 @@ runs_of_chain us chain = record {
 }
 
 -- ---- what runs use
-pub part_later : (u : Used) (t : ℤ) → t <ℤ u.from → part_at u t ≡ pos 0
-part_later u t h = grind (arith, ints)
-
-pub part_over : (u : Used) (t : ℤ) → u.to ≤ℤ t → part_at u t ≡ pos 0
-part_over u t h = grind (arith, ints)
-
-pub part_within : (u : Used) (t : ℤ) → u.from ≤ℤ t → t <ℤ u.to → part_at u t ≡ u.amount
-part_within u t g h = grind (arith, ints)
-
-pub part_some : (u : Used) (t : ℤ) → pos 0 ≤ℤ u.amount → pos 0 ≤ℤ part_at u t
-part_some u t h = grind (arith, ints)
-
 -- before all of them, and after
 pub later_all : (m t : ℤ) (us : List Used) → t <ℤ m → AllByRecursion (λ (u : Used). m ≤ℤ u.from) us → AllByRecursion (λ (u : Used). t <ℤ u.from) us
 later_all m t [] h all = tt
 later_all m t (u ∷ us) h all = let k : m ≤ℤ u.from = all.0 in (omega (arith, ints, k, h), later_all m t us h all.1)
-
-pub before_all : (us : List Used) (t : ℤ) → AllByRecursion (λ (u : Used). t <ℤ u.from) us → amount_at us t ≡ pos 0
-before_all [] t all = refl
-before_all (u ∷ us) t all = let p : part_at u t ≡ pos 0 = part_later u t all.0 in let q = before_all us t all.1 in omega (arith, ints, p, q)
-
-after_all : (us : List Used) (t : ℤ) → AllByRecursion (λ (u : Used). u.to ≤ℤ t) us → amount_at us t ≡ pos 0
-after_all [] t all = refl
-after_all (u ∷ us) t all = let p : part_at u t ≡ pos 0 = part_over u t all.0 in let q = after_all us t all.1 in omega (arith, ints, p, q)
 
 weaker : (us : List Used) (m t : ℤ) → m ≤ℤ t → AllByRecursion (λ (u : Used). u.to ≤ℤ m) us → AllByRecursion (λ (u : Used). u.to ≤ℤ t) us
 weaker [] m t h all = tt
 weaker (u ∷ us) m t h all = let k : u.to ≤ℤ m = all.0 in (omega (arith, ints), weaker us m t h all.1)
 
 pub all_over : (us : List Used) (m t : ℤ) → m ≤ℤ t → All (λ (u : Used). u.to ≤ℤ m) us → amount_at us t ≡ pos 0
-all_over us m t h all = after_all us t (weaker us m t h (recursion_from_All (λ (u : Used). u.to ≤ℤ m) us all))
+all_over us m t h all = amount_over us t (weaker us m t h (recursion_from_All (λ (u : Used). u.to ≤ℤ m) us all))
 
 pub ends_later : (us : List Used) (m t : ℤ) → m ≤ℤ t → All (λ (u : Used). u.to ≤ℤ m) us → All (λ (u : Used). u.to ≤ℤ t) us
 ends_later us m t h all = All-from_recursion (λ (u : Used). u.to ≤ℤ t) us (weaker us m t h (recursion_from_All (λ (u : Used). u.to ≤ℤ m) us all))

@@ -6,6 +6,8 @@ pub mod ElementLaw
 pub mod RisingLists
 pub mod NumberSets
 pub mod TakenLeft
+pub mod DistinctNumbers
+pub mod SortedTaken
 pub mod AllDifferentLaw
 pub mod RowsLeft
 pub mod FullTables

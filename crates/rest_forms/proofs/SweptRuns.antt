@@ -14,11 +14,12 @@ use Rattle.std.proofs.lemmas.List.Sorted.{All-permutation, sum_by-IsPermutation,
 use Rattle.fzn_model.specs.declared.cumulative.Used.{Used}
 use Rattle.fzn_model.specs.Limits.{IsNear}
 use Rattle.fzn_model.specs.Meaning.{amount_at}
+use Rattle.fzn_model.proofs.Moments.{amount_not_negative}
 use Rattle.rest_forms.specs.Forms.{AreUsedRuns, AreRunsOf}
 use Rattle.rest_forms.specs.Sweep.{IsAmount, AreAmounts, part_at, changes_of_part, changes_of, changed_by, AreFrom, AreChanges, CanStep, IsStep, Swept}
 use Rattle.rest_forms.specs.declared.used_runs.Change.{Change}
 use Rattle.rest_forms.specs.declared.used_runs.Sweep.{Sweep}
-use Rattle.rest_forms.proofs.JoinedRuns.{runs_of_chain, part_some, all_over, ends_later}
+use Rattle.rest_forms.proofs.JoinedRuns.{runs_of_chain, all_over, ends_later}
 
 -- ---- changes add up to what is used
 changed_append : (cs ds : List Change) (t : ℤ) → changed_by (cs ++ ds) t ≡ changed_by cs t +ℤ changed_by ds t
@@ -161,12 +162,8 @@ not_yet m t (c ∷ cs) from h =
     omega (arith, ints, here, rest)
 
 -- ---- no amount is negative, and in the end nothing is used
-amount_some : (us : List Used) (t : ℤ) → AllByRecursion IsAmount us → pos 0 ≤ℤ amount_at us t
-amount_some [] t all = omega (arith, ints)
-amount_some (u ∷ us) t all = let one = all.0 in let p : pos 0 ≤ℤ part_at u t = part_some u t one.some in let q = amount_some us t all.1 in omega (arith, ints, p, q)
-
 pub amounts_some : (us : List Used) (t : ℤ) → AreAmounts us → pos 0 ≤ℤ amount_at us t
-amounts_some us t amounts = amount_some us t (recursion_from_All IsAmount us amounts.each)
+amounts_some us t amounts = amount_not_negative us t (λ i d h. (amounts.each i d h).some)
 
 -- ---- the sweep
 pub swept_none : (us : List Used) (cs : List Change) (s : Sweep) → AreChanges us cs → s.runs.items ≡ [] → s.last ≡ neg_ℤ (pos (2 ^ 63)) → s.amount ≡ pos 0 → Swept us cs s

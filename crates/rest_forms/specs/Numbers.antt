@@ -1,5 +1,6 @@
 -- Sets of numbers in the making, by their members.
-use Rattle.std.specs.Prelude.{◌≡◌, ◌↔◌, ◌⊎◌, true, false, List, ℤ, Contains}
+use Rattle.std.specs.Prelude.{◌≡◌, ◌↔◌, ◌⊎◌, ℕ, ◌+◌, ◌<◌, Bool, true, false, List, slice_index_or, ℤ, ◌<ℤ◌, Contains}
+use Rattle.std.specs.List.{list_any}
 use Rattle.fzn_model.specs.declared.term.Term.{Term}
 use Rattle.rest_forms.specs.Forms.{term_has, open_has}
 
@@ -28,3 +29,11 @@ pub record HadAreMoved (box : List (List ℤ)) (x : Term) (from rest to more : L
 pub record AreParted (box : List (List ℤ)) (xs : List Term) (numbers rest had : List ℤ) : Type 0 where
   pub rest_has : (w : ℤ) → Contains rest w ↔ ((open_has box xs w ≡ false) × Contains numbers w)
   pub had_has : (w : ℤ) → Contains had w ↔ ((open_has box xs w ≡ true) × Contains numbers w)
+
+-- each of the first numbers is less than the next of them
+pub record RiseUpTo (n : ℕ) (zs : List ℤ) : Type 0 where
+  pub each : (k : ℕ) (d : ℤ) → k + 1 < n → slice_index_or zs k d <ℤ slice_index_or zs (k + 1) d
+
+-- some term can have the number
+abbrev pub some_has : List (List ℤ) → List Term → ℤ → Bool
+some_has box ts z = list_any (term_has box z) ts

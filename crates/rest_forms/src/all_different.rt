@@ -9,6 +9,7 @@ ghost use Rattle.rest_forms.specs.Forms.{fixed_values, has_twice, share_one, is_
 ghost use Rattle.rest_forms.specs.Numbers.{HasSame, AreParted};
 
 use crate::numbers::{clash_with, list_of, move_had, set_of};
+use crate::rising::{are_rising, had_of, in_order};
 use crate::values::fixed_values;
 use fzn_model::{BoxView, Con, List, Term};
 use rest_basic::{Reduced, empty_clause, is_open_in, open_terms_in};
@@ -93,8 +94,9 @@ fn form_left(members: List<Term>, taken: List<i64>) -> Reduced
     }
 }
 
-/// The form, by the values of the fixed members.
-#[tactic(auto, using(crate::proofs::TakenLeft::form_clash, crate::proofs::TakenLeft::form_apart))]
+/// The form, by the values of the fixed members: where the taken numbers and these, in order, all differ, a walk over them
+/// gives what is left; else sets of them do.
+#[tactic(auto, using(rest_basic::proofs::Substituting::open_in, crate::proofs::SortedTaken::sorted_form, crate::proofs::TakenLeft::form_clash, crate::proofs::TakenLeft::form_apart))]
 fn form_by<V: BoxView>(
     alloc: Global,
     xs: &[Term],
@@ -106,6 +108,12 @@ fn form_by<V: BoxView>(
     requires fixed { fixed.now ≡ fixed_values (V.shape view.now) xs.now }
     ensures { IfOk result (λ left. left ≡ all_different_form (V.shape view.now) xs.now taken.now) }
 {
+    let numbers = in_order(alloc, taken, fixed)?;
+    if are_rising(numbers.as_slice()) {
+        let members = open_terms_in(alloc, xs, view)?;
+        let left = had_of(alloc, members.as_slice(), numbers.as_slice(), view)?;
+        return Ok(form_left(members, left));
+    }
     match all_taken(alloc, taken, fixed)? {
         None => Ok(Reduced::Is(empty_clause(alloc))),
         Some(mut numbers) => {
@@ -116,7 +124,8 @@ fn form_by<V: BoxView>(
     }
 }
 
-/// The form of values that differ from each other and from the taken ones.
+/// The form of values that differ from each other and from the taken ones. Sorts the taken numbers and the values of the
+/// fixed members, and asks for each whether an open member can have it.
 pub(crate) fn form_of_all_different<V: BoxView>(
     alloc: Global,
     xs: &[Term],

@@ -208,23 +208,6 @@ fn all_used<V: BoxView>(
     Ok(all)
 }
 
-/// The runs of all that is used.
-fn all_runs<V: BoxView>(
-    alloc: Global,
-    tasks: &[CumTask],
-    used: &[Used],
-    view: &V,
-) -> Result<List<Used>, AllocError>
-    requires tasks { TasksInLimits (length (V.shape view.now)) tasks.now }
-    requires used { UsedInLimits of_call used.now }
-    requires none { some_negative (V.shape view.now) tasks.now ≡ false }
-    ensures runs { IfOk result (λ runs. AreRunsOf runs (all_used (V.shape view.now) tasks.now used.now)) }
-    ensures amounts { IfOk result (λ runs. AreAmounts (all_used (V.shape view.now) tasks.now used.now)) }
-{
-    let all = all_used(alloc, tasks, used, view)?;
-    used_runs(alloc, all.as_slice())
-}
-
 /// Whether the greatest amount of the runs is at most the limit.
 fn runs_fit<V: BoxView>(runs: &List<Used>, limit: Term, view: &V) -> bool
     requires { TermIn (length (V.shape view.now)) limit }
@@ -248,7 +231,8 @@ fn form_past_bounds<V: BoxView>(
     requires none { some_negative (V.shape view.now) tasks.now ≡ false }
     ensures { IfOk result (λ left. IsFormPastBounds (V.shape view.now) tasks.now used.now limit left) }
 {
-    let runs = all_runs(alloc, tasks, used, view)?;
+    let all = all_used(alloc, tasks, used, view)?;
+    let runs = used_runs(alloc, all.as_slice())?;
     if all_fixed(tasks, limit, view) {
         return Ok(of_truth(alloc, runs_fit(&runs, limit, view)));
     }

@@ -48,11 +48,11 @@ fn members<V: BoxView>(
     requires xs { TermsIn (length (V.shape view.now)) xs.now }
     ensures { IfOk result (λ left. left ≡ members_from (V.shape view.now) i 1 xs.now) }
 {
-    let mut left = List::new(alloc);
+    let mut left = Vec::with_capacity(alloc, xs.len())?;
     for (at, x) in xs.iter().enumerate() {
         left.push(member_at(*x, i, at + 1, view))?;
     }
-    Ok(left)
+    Ok(List::from_vec(left))
 }
 
 /// The place in a list of an index that counts from 1.

@@ -13,15 +13,16 @@
 //! ([`global_forms_are_unique`]).
 //!
 //! What it costs: one pass over the constraint for each of its tests and lists, with a look at the view for each term, and
-//! memory for what is left. Sorted are the taken and fixed values of values that differ, of which each member with a bitmap
-//! looks at those within its bounds, at most 1,024; the moments where used amounts and fixed tasks begin and end; and the
-//! rows of a table.
+//! memory for what is left. Sorted are the taken and fixed values of values that differ, each of which is then looked up in
+//! the open members until one can have it; the moments where used amounts and fixed tasks begin and end; and the rows of a
+//! table.
 //!
 //! What it stands on: fzn_model for constraints and views, rest_basic for terms and the other kinds.
 #![tactic(auto)]
 
 // Terms and their values, and sets of numbers.
 mod numbers;
+mod rising;
 mod values;
 
 // The greatest and the least of a list, and an element of a list.

@@ -46,7 +46,7 @@ fn open_entries<V: BoxView>(
     requires row { length row.now ≡ length xs.now }
     ensures { IfOk result (λ entries. entries.items ≡ open_entries (V.shape view.now) xs.now row.now) }
 {
-    let mut entries = Vec::new(alloc);
+    let mut entries = Vec::with_capacity(alloc, xs.len())?;
     for (at, x) in xs.iter().enumerate() {
         if is_open_in(*x, view) {
             push(&mut entries, &row[at])?;

@@ -5,3 +5,4 @@ pub mod RestKept
 pub mod RenamedLaw
 pub mod RestLaw
 pub mod UniqueRest
+pub mod MadeRest

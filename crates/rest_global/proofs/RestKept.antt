@@ -78,11 +78,11 @@ pub variables_inside : (box : List (List ℤ)) → All (λ k. k < length box) (r
 unfolding rest_variables
 variables_inside box i d inside = (opens_from box (length box) i d inside).below
 
-variables_few : (box : List (List ℤ)) → length (rest_variables box) ≤ length box
+pub variables_few : (box : List (List ℤ)) → length (rest_variables box) ≤ length box
 unfolding rest_variables
 variables_few box = opens_below box (length box)
 
-domains_kept : (box : List (List ℤ)) → IsBox box → All DomainInLimits (map (λ k. runs_of (domain_at box k)) (rest_variables box))
+pub domains_kept : (box : List (List ℤ)) → IsBox box → All DomainInLimits (map (λ k. runs_of (domain_at box k)) (rest_variables box))
 domains_kept box well_formed = All-map DomainInLimits (λ k. runs_of (domain_at box k)) (rest_variables box) (All-weaker (λ k. k < length box) (λ k. DomainInLimits (runs_of (domain_at box k))) (λ k inside. domain_kept (domain_at box k) (well_formed k [] inside)) (rest_variables box) (variables_inside box))
 
 -- ---- terms
@@ -242,7 +242,7 @@ part_kept n factor (term.Var k) small inside = record {
 none_kept : (n : ℕ) → CostInLimits n []
 none_kept n = record { count = omega arith; factors = All-nil (λ (p : ℤ × ℕ). IsValue p.0); variables = All-nil (λ (p : ℤ × ℕ). p.1 < n) }
 
-cost_kept : (box : List (List ℤ)) (g : Goal) → IsBox box → GoalInLimits (length box) g → CostInLimits (length (rest_variables box)) (cost_left box g)
+pub cost_kept : (box : List (List ℤ)) (g : Goal) → IsBox box → GoalInLimits (length box) g → CostInLimits (length (rest_variables box)) (cost_left box g)
 cost_kept box goal.Satisfy well_formed kept = none_kept (length (rest_variables box))
 cost_kept box (goal.Minimise t) well_formed kept = part_kept (length (rest_variables box)) (pos 1) (rest_term box t) (omega (arith, ints)) (term_kept box t well_formed kept)
 cost_kept box (goal.Maximise t) well_formed kept = part_kept (length (rest_variables box)) (negsuc 0) (rest_term box t) (omega (arith, ints)) (term_kept box t well_formed kept)

@@ -26,9 +26,9 @@ pub(crate) fn domains_of<V: BoxView>(
     requires { All (λ var. var < length (V.shape view.now)) variables.now }
     ensures { IfOk result (λ domains. domains ≡ map (λ var. runs_of (domain_at (V.shape view.now) var)) variables.now) }
 {
-    let mut domains = List::new(alloc);
+    let mut domains = Vec::with_capacity(alloc, variables.len())?;
     for var in variables {
         domains.push(domain_of(alloc, *var, view)?)?;
     }
-    Ok(domains)
+    Ok(List::from_vec(domains))
 }

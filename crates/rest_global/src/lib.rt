@@ -13,10 +13,11 @@
 //! ([`rests_keep_solutions`]); a box has one rest ([`rests_are_unique`]).
 //!
 //! What it costs: one pass over the domains and over the constraints, and memory for what is left. Each variable's place
-//! among the open ones stands in a table. A rest is made whole before its words are counted.
+//! among the open ones stands in a table. Words are counted as the rest grows; beyond the limit each further constraint
+//! that is left is counted and dropped.
 //!
 //! What it stands on: fzn_model for models, views and residual problems, rest_basic and rest_forms for what is left of a
-//! constraint, rest_key for the count of words.
+//! constraint, rest_key for the counts of words.
 #![tactic(auto)]
 
 // What an answer is.

@@ -68,7 +68,7 @@ pub(crate) fn numbering_of<V: BoxView>(
     ensures well_formed { OnOk result (IsBox (V.shape view.now)) }
 {
     let mut variables = Vec::new(alloc);
-    let mut places = Vec::new(alloc);
+    let mut places = Vec::with_capacity(alloc, count as usize)?;
     for var in 0..count {
         add(&mut variables, &mut places, var, view)?;
     }

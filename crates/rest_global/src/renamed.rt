@@ -36,11 +36,11 @@ fn rest_terms<V: BoxView>(
     requires terms { All (TermIn (length (V.shape view.now))) terms.now }
     ensures { IfOk result (λ renamed. renamed ≡ terms_by (rest_term (V.shape view.now)) terms.now) }
 {
-    let mut renamed = List::new(alloc);
+    let mut renamed = Vec::with_capacity(alloc, terms.len())?;
     for term in terms {
         renamed.push(rest_term(*term, places, view))?;
     }
-    Ok(renamed)
+    Ok(List::from_vec(renamed))
 }
 
 /// A coefficient beside its term.
@@ -64,11 +64,11 @@ fn rest_linear_terms<V: BoxView>(
     requires terms { SumInLimits (length (V.shape view.now)) terms.now }
     ensures { IfOk result (λ renamed. renamed ≡ linear_terms_by (rest_term (V.shape view.now)) terms.now) }
 {
-    let mut renamed = List::new(alloc);
+    let mut renamed = Vec::with_capacity(alloc, terms.len())?;
     for term in terms {
         renamed.push(rest_linear_term(term, places, view))?;
     }
-    Ok(renamed)
+    Ok(List::from_vec(renamed))
 }
 
 /// A task.
@@ -98,11 +98,11 @@ fn rest_tasks<V: BoxView>(
     requires tasks { TasksInLimits (length (V.shape view.now)) tasks.now }
     ensures { IfOk result (λ renamed. renamed ≡ tasks_by (rest_term (V.shape view.now)) tasks.now) }
 {
-    let mut renamed = List::new(alloc);
+    let mut renamed = Vec::with_capacity(alloc, tasks.len())?;
     for task in tasks {
         renamed.push(rest_task(task, places, view))?;
     }
-    Ok(renamed)
+    Ok(List::from_vec(renamed))
 }
 
 /// A base.

@@ -1,8 +1,6 @@
--- The difference of two lists of used amounts rises only where one of the first begins or one of the second ends, so what
--- bounds it there, and before all moments, bounds it always.
-use Rattle.std.proofs.Common.{◌≡◌, ℕ, suc, zero, ◌+◌, ◌-◌, ◌*◌, ◌<◌, ◌≤◌, ◌⊎◌, inl, inr, List, [], ◌∷◌, length, get_or, refl, arith, ℤ, pos, negsuc, ◌-ℤ◌, ◌≤ℤ◌, ◌<ℤ◌, below_more, subst}
-use Rattle.std.specs.Prelude.{unsigned_abs}
-use Rattle.std.specs.List.{AllByRecursion}
+-- The difference of two lists of used amounts is bounded where it is bounded at the moments where it may rise, and what is used
+-- of amounts that are apart.
+use Rattle.std.proofs.Common.{◌≡◌, ℕ, suc, zero, ◌+◌, ◌-◌, ◌*◌, ◌<◌, ◌≤◌, List, [], ◌∷◌, length, get_or, refl, arith, ℤ, pos, negsuc, ◌-ℤ◌, ◌≤ℤ◌, ◌<ℤ◌, below_more, subst}
 use Rattle.std.proofs.lemmas.Int.{ints, by_lt_z}
 use Rattle.std.proofs.lemmas.List.{get_or_default}
 use Rattle.std.proofs.lemmas.List.Elements.{recursion_from_All}
@@ -10,108 +8,17 @@ use Rattle.fzn_model.specs.Meaning.{amount_at}
 use Rattle.fzn_model.specs.Values.{largest}
 use Rattle.fzn_model.specs.Limits.{UsedInLimits, of_call}
 use Rattle.fzn_model.specs.declared.cumulative.Used.{Used}
-use Rattle.fzn_model.proofs.Moments.{part}
+use Rattle.fzn_model.proofs.Moments.{part, part_later, part_over, NotNegative, amount_later, difference_below}
 use Rattle.rest_key.specs.Weaker.{LeavesAsMuch, UsesNoMore}
-use Rattle.rest_key.specs.PartTests.{AreApart, IsFirstAfter, excess_at, StaysBelow, BeginsBelow, EndsBelow}
-
--- The latest of some moments that aren't after t: a member's, and each other member's is at most it or after t.
-record Latest {X : Type 0} (f : X → ℤ) (xs : List X) (t : ℤ) : Type 0 where
-  at : ℕ
-  moment : ℤ
-  within : at < length xs
-  is : (d : X) → f (get_or xs at d) ≡ moment
-  before : moment ≤ℤ t
-  last : AllByRecursion (λ x. f x ≤ℤ t → f x ≤ℤ moment) xs
-
-by_more : {X : Type 0} (f : X → ℤ) (xs : List X) (t a b : ℤ) → a ≤ℤ b → AllByRecursion (λ x. f x ≤ℤ t → f x ≤ℤ a) xs → AllByRecursion (λ x. f x ≤ℤ t → f x ≤ℤ b) xs
-by_more f [] t a b h all = tt
-by_more f (x ∷ xs) t a b h all = (λ e. let k : f x ≤ℤ a = all.0 e in omega (arith, ints), by_more f xs t a b h all.1)
-
-none_before : {X : Type 0} (f : X → ℤ) (xs : List X) (t a : ℤ) → AllByRecursion (λ x. t <ℤ f x) xs → AllByRecursion (λ x. f x ≤ℤ t → f x ≤ℤ a) xs
-none_before f [] t a all = tt
-none_before f (x ∷ xs) t a all = (λ e. let k : t <ℤ f x = all.0 in absurd (omega (arith, ints)), none_before f xs t a all.1)
-
-in_order : (a b : ℤ) → (a ≤ℤ b) ⊎ (b <ℤ a)
-in_order a b = by_lt_z b a inr inl
-
-latest_more : {X : Type 0} (f : X → ℤ) (x : X) (xs : List X) (t : ℤ) → AllByRecursion (λ x. t <ℤ f x) xs ⊎ Latest f xs t → AllByRecursion (λ x. t <ℤ f x) (x ∷ xs) ⊎ Latest f (x ∷ xs) t
-latest_more f x xs t (inl none) = elim (in_order (f x) t) [
-  | inl h ↦ inr (record { at = 0; moment = f x; within = omega arith; is = λ d. refl; before = h; last = (λ e. omega (arith, ints), none_before f xs t (f x) none) })
-  | inr h ↦ inl (h, none)
-]
-latest_more f x xs t (inr l) = elim (in_order (f x) t) [
-  | inl h ↦ elim (in_order (f x) l.moment) [
-    | inl k ↦ inr (record { at = suc l.at; moment = l.moment; within = omega (arith, l.within); is = l.is; before = l.before; last = (λ e. k, l.last) })
-    | inr k ↦ inr (record { at = 0; moment = f x; within = omega arith; is = λ d. refl; before = h; last = (λ e. omega (arith, ints), by_more f xs t l.moment (f x) (omega (arith, ints)) l.last) })
-  ]
-  | inr h ↦ inr (record { at = suc l.at; moment = l.moment; within = omega (arith, l.within); is = l.is; before = l.before; last = (λ e. absurd (omega (arith, ints)), l.last) })
-]
-
-latest : {X : Type 0} (f : X → ℤ) (xs : List X) (t : ℤ) → AllByRecursion (λ x. t <ℤ f x) xs ⊎ Latest f xs t
-latest f [] t = inl tt
-latest f (x ∷ xs) t = latest_more f x xs t (latest f xs t)
-
--- Of an amount that begins by m, if by t, as much is used at m as at the later t or more.
-part_falls : (u : Used) (t m : ℤ) → m ≤ℤ t → (u.from ≤ℤ t → u.from ≤ℤ m) → pos 0 ≤ℤ u.amount → part u t ≤ℤ part u m
-part_falls u t m h f z = grind (arith, ints)
-
--- Of one that ends by m, if by t, no more.
-part_rises : (u : Used) (t m : ℤ) → m ≤ℤ t → (u.to ≤ℤ t → u.to ≤ℤ m) → pos 0 ≤ℤ u.amount → part u m ≤ℤ part u t
-part_rises u t m h f z = grind (arith, ints)
-
-amount_falls : (us : List Used) (t m : ℤ) → m ≤ℤ t → AllByRecursion (λ u. u.from ≤ℤ t → u.from ≤ℤ m) us → AllByRecursion (λ u. pos 0 ≤ℤ u.amount) us → amount_at us t ≤ℤ amount_at us m
-amount_falls [] t m h f z = omega (arith, ints)
-amount_falls (u ∷ us) t m h f z = omega (arith, ints, part_falls u t m h f.0 z.0, amount_falls us t m h f.1 z.1)
-
-amount_rises : (us : List Used) (t m : ℤ) → m ≤ℤ t → AllByRecursion (λ u. u.to ≤ℤ t → u.to ≤ℤ m) us → AllByRecursion (λ u. pos 0 ≤ℤ u.amount) us → amount_at us m ≤ℤ amount_at us t
-amount_rises [] t m h f z = omega (arith, ints)
-amount_rises (u ∷ us) t m h f z = omega (arith, ints, part_rises u t m h f.0 z.0, amount_rises us t m h f.1 z.1)
-
-part_not_negative : (u : Used) (t : ℤ) → pos 0 ≤ℤ u.amount → pos 0 ≤ℤ part u t
-part_not_negative u t z = grind (arith, ints)
-
-not_negative : (us : List Used) (t : ℤ) → AllByRecursion (λ u. pos 0 ≤ℤ u.amount) us → pos 0 ≤ℤ amount_at us t
-not_negative [] t n = omega (arith, ints)
-not_negative (u ∷ us) t n = let p : pos 0 ≤ℤ part u t = part_not_negative u t n.0 in let q = not_negative us t n.1 in omega (arith, ints)
-
-part_later : (u : Used) (t : ℤ) → t <ℤ u.from → part u t ≡ pos 0
-part_later u t h = grind (arith, ints)
-
-nothing_yet : (us : List Used) (t : ℤ) → AllByRecursion (λ u. t <ℤ u.from) us → amount_at us t ≡ pos 0
-nothing_yet [] t h = refl
-nothing_yet (u ∷ us) t h = let p : part u t ≡ pos 0 = part_later u t h.0 in let q = nothing_yet us t h.1 in omega (arith, ints)
+use Rattle.rest_key.specs.PartTests.{AreApart, IsFirstAfter, StaysBelow, BeginsBelow, EndsBelow}
 
 -- the amounts of a kept list aren't negative
-amounts : (us : List Used) → UsedInLimits of_call us → AllByRecursion (λ u. pos 0 ≤ℤ u.amount) us
-amounts us k = recursion_from_All (λ u. pos 0 ≤ℤ u.amount) us (λ i d p. (k.amounts i d p).0)
-
--- where the difference is bounded at the moment, it is at the later t
-below_from : (us vs : List Used) (r t m : ℤ) → UsedInLimits of_call us → UsedInLimits of_call vs → m ≤ℤ t → AllByRecursion (λ u. u.from ≤ℤ t → u.from ≤ℤ m) us → AllByRecursion (λ u. u.to ≤ℤ t → u.to ≤ℤ m) vs → excess_at us vs m ≤ℤ r → excess_at us vs t ≤ℤ r
-below_from us vs r t m k l h f g e =
-    let p = amount_falls us t m h f (amounts us k) in
-    let q = amount_rises vs t m h g (amounts vs l) in
-    omega (arith, ints, p, q, e)
-
--- at the latest moment where one of the first begins, or one of the second ends
-begun : (us vs : List Used) (r t : ℤ) → BeginsBelow us vs r → (l : Latest (λ (u : Used). u.from) us t) → excess_at us vs l.moment ≤ℤ r
-unfolding BeginsBelow
-begun us vs r t b l = let d : Used = record { from = pos 0; to = pos 0; amount = pos 0 } in subst (λ (m : ℤ). excess_at us vs m ≤ℤ r) (l.is d) (b l.at d l.within)
-
-ended : (us vs : List Used) (r t : ℤ) → EndsBelow us vs r → (l : Latest (λ (u : Used). u.to) vs t) → excess_at us vs l.moment ≤ℤ r
-unfolding EndsBelow
-ended us vs r t b l = let d : Used = record { from = pos 0; to = pos 0; amount = pos 0 } in subst (λ (m : ℤ). excess_at us vs m ≤ℤ r) (l.is d) (b l.at d l.within)
-
-below_at : (us vs : List Used) (r t : ℤ) → UsedInLimits of_call us → UsedInLimits of_call vs → pos 0 ≤ℤ r → BeginsBelow us vs r → EndsBelow us vs r → AllByRecursion (λ (u : Used). t <ℤ u.from) us ⊎ Latest (λ (u : Used). u.from) us t → AllByRecursion (λ (u : Used). t <ℤ u.to) vs ⊎ Latest (λ (u : Used). u.to) vs t → excess_at us vs t ≤ℤ r
-below_at us vs r t k l z b e (inl none) ends = let p = nothing_yet us t none in let q = not_negative vs t (amounts vs l) in omega (arith, ints, p, q)
-below_at us vs r t k l z b e (inr one) (inl none) = below_from us vs r t one.moment k l one.before one.last (none_before (λ (u : Used). u.to) vs t one.moment none) (begun us vs r t b one)
-below_at us vs r t k l z b e (inr one) (inr two) = elim (in_order one.moment two.moment) [
-  | inl h ↦ below_from us vs r t two.moment k l two.before (by_more (λ (u : Used). u.from) us t one.moment two.moment h one.last) two.last (ended us vs r t e two)
-  | inr h ↦ below_from us vs r t one.moment k l one.before one.last (by_more (λ (u : Used). u.to) vs t two.moment one.moment (omega (arith, ints)) two.last) (begun us vs r t b one)
-]
+amounts : (us : List Used) → UsedInLimits of_call us → NotNegative us
+amounts us k i d p = (k.amounts i d p).0
 
 pub stays_below : (us vs : List Used) (r : ℤ) → UsedInLimits of_call us → UsedInLimits of_call vs → pos 0 ≤ℤ r → BeginsBelow us vs r → EndsBelow us vs r → StaysBelow us vs r
-unfolding StaysBelow
-stays_below us vs r k l z b e t = below_at us vs r t k l z b e (latest (λ (u : Used). u.from) us t) (latest (λ (u : Used). u.to) vs t)
+unfolding BeginsBelow EndsBelow StaysBelow
+stays_below us vs r k l = difference_below us vs r (amounts us k) (amounts vs l)
 
 pub below_begins : (us vs : List Used) (r : ℤ) → StaysBelow us vs r → BeginsBelow us vs r
 unfolding StaysBelow BeginsBelow
@@ -122,19 +29,12 @@ unfolding StaysBelow EndsBelow
 below_ends us vs r s i d h = s _
 
 -- before the least moment that a call takes nothing is used
-part_early : (u : Used) → unsigned_abs u.from ≤ 2 * largest → part u (negsuc (2 * largest)) ≡ pos 0
-part_early u h = part_later u (negsuc (2 * largest)) (omega (arith, ints))
-
-unused : (us : List Used) → AllByRecursion (λ (u : Used). unsigned_abs u.from ≤ 2 * largest) us → amount_at us (negsuc (2 * largest)) ≡ pos 0
-unused [] h = refl
-unused (u ∷ us) h = let p : part u (negsuc (2 * largest)) ≡ pos 0 = part_early u h.0 in let q = unused us h.1 in omega (arith, ints)
-
-unused_kept : (us : List Used) → UsedInLimits of_call us → amount_at us (negsuc (2 * largest)) ≡ pos 0
-unused_kept us k = unused us (recursion_from_All (λ (u : Used). unsigned_abs u.from ≤ 2 * largest) us (λ i d p. (k.moments i d p).0))
+unused : (us : List Used) → UsedInLimits of_call us → amount_at us (negsuc (2 * largest)) ≡ pos 0
+unused us k = amount_later us (negsuc (2 * largest)) (recursion_from_All (λ (u : Used). negsuc (2 * largest) <ℤ u.from) us (λ i d p. let near = (k.moments i d p).0 in omega (arith, ints, near)))
 
 pub below_room : (us vs : List Used) (r : ℤ) → UsedInLimits of_call us → UsedInLimits of_call vs → StaysBelow us vs r → pos 0 ≤ℤ r
 unfolding StaysBelow
-below_room us vs r k l s = let h = s (negsuc (2 * largest)) in let p = unused_kept us k in let q = unused_kept vs l in omega (arith, ints, h, p, q)
+below_room us vs r k l s = let h = s (negsuc (2 * largest)) in let p = unused us k in let q = unused vs l in omega (arith, ints, h, p, q)
 
 pub leaves_stays : (b : ℤ) (us : List Used) (c : ℤ) (vs : List Used) (r : ℤ) → r ≡ b -ℤ c → LeavesAsMuch b us c vs → StaysBelow us vs r
 unfolding LeavesAsMuch StaysBelow
@@ -153,9 +53,6 @@ unfolding UsesNoMore StaysBelow
 stays_no_more us vs h t = let k = h t in omega (arith, ints)
 
 -- of amounts that are apart at most the first that hasn't ended is used
-part_over : (u : Used) (t : ℤ) → u.to ≤ℤ t → part u t ≡ pos 0
-part_over u t h = grind (arith, ints)
-
 idle : (us : List Used) (t : ℤ) → ((k : ℕ) (e : Used) → k < length us → part (get_or us k e) t ≡ pos 0) → amount_at us t ≡ pos 0
 idle [] t h = refl
 idle (u ∷ us) t h = let q = idle us t (λ k e l. h (suc k) e (omega arith)) in let o : part u t ≡ pos 0 = h 0 u (omega arith) in omega (arith, ints, q, o)
@@ -209,7 +106,3 @@ gaps_more us k gaps ends next j l = below_more (λ j. (i : ℕ) (d : Used) → i
 
 pub ends_more : (us : List Used) (k : ℕ) → ((j : ℕ) (d : Used) → j < k → (get_or us j d).from ≤ℤ (get_or us j d).to) → ((d : Used) → (get_or us k d).from ≤ℤ (get_or us k d).to) → (j : ℕ) (d : Used) → j < k + 1 → (get_or us j d).from ≤ℤ (get_or us j d).to
 ends_more us k ends here j d l = below_more (λ j. (d : Used) → (get_or us j d).from ≤ℤ (get_or us j d).to) k (λ i n d. ends i d n) here j l d
-
--- what holds of the amounts so far, and of one more
-pub more_hold : (P : Used → Type 0) (us : List Used) (k : ℕ) (e : Used) → k < length us → ((j : ℕ) (d : Used) → j < k → P (get_or us j d)) → P (get_or us k e) → (j : ℕ) (d : Used) → j < k + 1 → P (get_or us j d)
-more_hold P us k e h before here j d l = below_more (λ j. (d : Used) → P (get_or us j d)) k (λ i n d. before i d n) (λ d. subst P (get_or_default us k e d h) here) j l d

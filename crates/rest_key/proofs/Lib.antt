@@ -6,3 +6,4 @@ pub mod WeakerLaw
 pub mod WordCounts
 pub mod EqualWords
 pub mod Comparable
+pub mod LowBits

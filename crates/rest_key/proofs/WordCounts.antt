@@ -121,7 +121,7 @@ base_short n (base.Lin l) k = k.sum.count
 base_short n (base.Clause c) k = (k.pos.count, k.neg.count)
 base_short n (base.Member m) k = k.set
 
-con_short : (n : ℕ) (c : Con) → ConInLimits of_call n c → IsShort c
+pub con_short : (n : ℕ) (c : Con) → ConInLimits of_call n c → IsShort c
 con_short n (con.Base b) k = base_short n b k
 con_short n (con.Reif b r f) k = base_short n b k.0
 con_short n (con.Greatest m xs) k = k.1.terms.count

@@ -10,8 +10,8 @@ use Rattle.rest_key.specs.declared.items.Items.TheVariants as items
 use Rattle.rest_key.specs.declared.items.Field.{Field}
 use Rattle.rest_key.specs.declared.fields.Fields.{Fields}
 use Rattle.rest_key.specs.declared.fields.Fields.TheVariants as fields
-use Rattle.rest_key.specs.declared.fields.Detail.{Detail}
-use Rattle.rest_key.specs.declared.fields.Detail.TheVariants as detail
+use Rattle.rest_key.specs.declared.digest.Detail.{Detail}
+use Rattle.rest_key.specs.declared.digest.Detail.TheVariants as detail
 use Rattle.rest_key.specs.Words.{list_words, number_words, term_words, run_words, linear_term_words, task_words, used_words, cost_words, con_parts, far_parts}
 
 abbrev pub few_words : Few → List ℤ

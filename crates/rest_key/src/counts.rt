@@ -31,7 +31,7 @@ fn base_count(base: &Base) -> u64
 }
 
 /// How many words the number of the kind and the parts of a constraint are.
-fn con_count(con: &Con) -> u64
+pub fn con_count(con: &Con) -> u64
     requires { IsShort con.now }
     ensures value { result ≡ con_count con.now }
     ensures small { result ≤ 36000005 + 2 * largest }
@@ -53,9 +53,9 @@ fn con_count(con: &Con) -> u64
     }
 }
 
-/// How many words domains are.
+/// How many words domains are, each the number of its runs, and two for each run.
 #[tactic(auto, using(crate::proofs::WordCounts::domains_from, crate::proofs::WordCounts::domains_end))]
-fn domains_count(domains: &[Runs]) -> u64
+pub fn domains_count(domains: &[Runs]) -> u64
     requires few { length domains.now ≤ 100000 }
     requires narrow { All IsNarrow domains.now }
     ensures value { result ≡ domains_count domains.now }

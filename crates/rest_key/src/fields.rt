@@ -1,19 +1,12 @@
 ghost use Rattle.std.specs.Prelude.{◌≡◌, ◌++◌, ◌∷◌, [], MatchOption};
-ghost use Rattle.rest_key.specs.Words.{rel_number, base_number, kind_number, base_parts, con_parts, far_parts, far_lin, far_base, far_capacity, list_words, task_words};
-ghost use Rattle.rest_key.specs.WordsLeft.{few_words, field_words, fields_words, detail_parts};
+ghost use Rattle.rest_key.specs.Words.{rel_number, base_number, kind_number, base_parts, con_parts};
+ghost use Rattle.rest_key.specs.WordsLeft.{few_words, field_words, fields_words};
 
 use crate::few::Few;
 use crate::items::{
     Field, linear_terms, numbers, one, runs, tasks, term, term_and_flag, terms, three, used,
 };
-use fzn_model::{Base, Con, CumTask, Lin, Rel, Term};
-
-/// Which parts of a constraint are words: all, or those that the far digest takes.
-#[derive(Clone, Copy)]
-pub(crate) enum Detail {
-    All,
-    Far,
-}
+use fzn_model::{Base, Con, Rel};
 
 /// Up to three fields.
 #[derive(Clone, Copy)]
@@ -81,7 +74,7 @@ fn base_fields(base: &Base) -> (Field<'_>, Field<'_>)
 }
 
 /// The number of the kind and the parts of a constraint.
-fn all_fields(con: &Con) -> (Few, Fields<'_>)
+pub(crate) fn con_fields(con: &Con) -> (Few, Fields<'_>)
     ensures { few_words result.0 ++ fields_words result.1 ≡ kind_number con.now ∷ con_parts con.now }
 {
     match con {
@@ -122,70 +115,5 @@ fn all_fields(con: &Con) -> (Few, Fields<'_>)
             Few::One(16),
             Fields::Two(terms(xs.as_slice()), numbers(rows.as_slice())),
         ),
-    }
-}
-
-/// What the far digest takes of a linear relation.
-fn far_lin(lin: &Lin) -> Fields<'_>
-    ensures { fields_words result ≡ far_lin lin.now.rel lin.now }
-{
-    let sum = linear_terms(lin.terms.as_slice());
-    match lin.rel {
-        Rel::Le => Fields::One(sum),
-        Rel::Eq | Rel::Ne => Fields::Two(sum, one(lin.r)),
-    }
-}
-
-/// What it takes of a cumulative: its tasks, and a capacity that is a variable.
-fn far_cumulative<'a>(list: &'a [CumTask], capacity: Term) -> Fields<'a>
-    ensures { fields_words result ≡ list_words task_words list.now ++ far_capacity capacity }
-{
-    match capacity {
-        Term::Const(_) => Fields::One(tasks(list)),
-        Term::Var(_) => Fields::Two(tasks(list), term(capacity)),
-    }
-}
-
-/// What it takes of a base, as a constraint of its own.
-fn far_base(base: &Base) -> Fields<'_>
-    ensures { fields_words result ≡ far_base base.now }
-{
-    match base {
-        Base::Lin(lin) => far_lin(lin),
-        Base::Clause(_) => Fields::Done,
-        Base::Member(member) => Fields::One(term(member.x)),
-    }
-}
-
-/// The number of the kind, and the parts that the far digest takes.
-fn far_fields(con: &Con) -> (Few, Fields<'_>)
-    ensures { few_words result.0 ++ fields_words result.1 ≡ kind_number con.now ∷ far_parts con.now }
-{
-    match con {
-        Con::Base(base) => (Few::One(base_number(base)), far_base(base)),
-        Con::AllDiffExcept(xs, _) => (Few::One(14), Fields::One(terms(xs.as_slice()))),
-        Con::CumulUsed(list, _, capacity) => (
-            Few::One(15),
-            far_cumulative(list.as_slice(), *capacity),
-        ),
-        Con::Table(xs, _) => (Few::One(16), Fields::One(terms(xs.as_slice()))),
-        Con::Reif(_, _, _)
-        | Con::Times(_, _, _)
-        | Con::Abs(_, _)
-        | Con::Div(_, _, _)
-        | Con::Mod(_, _, _)
-        | Con::Greatest(_, _)
-        | Con::Least(_, _)
-        | Con::Element(_, _, _) => all_fields(con),
-    }
-}
-
-/// The number of the kind, and the parts in this detail.
-pub(crate) fn con_fields<'a>(con: &'a Con, detail: Detail) -> (Few, Fields<'a>)
-    ensures { few_words result.0 ++ fields_words result.1 ≡ kind_number con.now ∷ detail_parts detail con.now }
-{
-    match detail {
-        Detail::All => all_fields(con),
-        Detail::Far => far_fields(con),
     }
 }

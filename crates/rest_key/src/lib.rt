@@ -14,10 +14,10 @@
 //! parts of constraints that a weaker one may differ in. The laws: a weaker constraint holds wherever the other does; a
 //! dominating problem includes the other; problems with the same words are the same.
 //!
-//! What it costs: no call takes memory. Words and digests take a step a word, `count` one for each domain and constraint.
-//! `weaker` and `dominates` take about a step a word and a binary search for each run, label and used amount. Literals,
-//! taken values and rows take a step each where both lists have them in the same order, as the rests of one model do, and
-//! are compared in pairs only else; so are used amounts that overlap.
+//! What it costs: no call takes memory. Words take a step a word, a digest a few instructions a word, `count` one step for
+//! each domain and constraint. `weaker` and `dominates` take about a step a word and a binary search for each run, label and
+//! used amount. Literals, taken values and rows take a step each where both lists have them in the same order, as the rests
+//! of one model do, and are compared in pairs only else; so are used amounts that overlap.
 //!
 //! What it stands on: fzn_model alone.
 #![tactic(auto)]
@@ -42,7 +42,7 @@ mod rest_words;
 // What follows from the definitions.
 mod laws;
 
-pub use counts::count;
+pub use counts::{con_count, count, domains_count};
 pub use digest::{far, near};
 pub use dominance::dominates;
 pub use laws::{

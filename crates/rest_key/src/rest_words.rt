@@ -1,11 +1,10 @@
-ghost use Rattle.std.specs.Prelude.{◌≡◌, ◌++◌, ◌∷◌, [], MatchOption, pos, length};
+ghost use Rattle.std.specs.Prelude.{◌≡◌, ◌++◌, [], MatchOption};
 ghost use Rattle.std.specs.Iterator.{YieldsFirst, item_count};
-ghost use Rattle.rest_key.specs.Words.{words_of, far_words, list_words, set_words, cost_words, labelled};
-ghost use Rattle.rest_key.specs.WordsLeft.{field_words, detail_parts};
-ghost use Rattle.std.specs.List.{flat_map};
+ghost use Rattle.rest_key.specs.Words.{words_of};
+ghost use Rattle.rest_key.specs.WordsLeft.{field_words};
 
 use crate::few::Few;
-use crate::fields::{Detail, Fields, con_fields};
+use crate::fields::{Fields, con_fields};
 use crate::items::{Field, Items, cost, first, one, runs};
 use fzn_model::{Con, Rest, Runs};
 
@@ -16,20 +15,19 @@ struct Ahead<'a> {
     doms: &'a [Runs],
     cost: Option<&'a [(i64, u32)]>,
     count: Option<i128>,
-    detail: Detail,
     cons: &'a [Con],
     labels: &'a [u32],
 }
 
 impl<'a> std::marker::Model for Ahead<'a> {
     ghost use Rattle.std.specs.Prelude.{List, ℤ, ◌++◌};
-    ghost use Rattle.rest_key.specs.WordsLeft.{fields_words, cost_left, count_left, detail_parts};
-    ghost use Rattle.rest_key.specs.Words.{set_words, labelled};
+    ghost use Rattle.rest_key.specs.WordsLeft.{fields_words, cost_left, count_left};
+    ghost use Rattle.rest_key.specs.Words.{set_words, con_parts, labelled};
     ghost use Rattle.std.specs.List.{flat_map};
 
     ghost Value = { List ℤ };
 
-    ghost view = { λ s. fields_words s.fields ++ flat_map set_words s.doms.now ++ cost_left s.cost ++ count_left s.count ++ labelled (detail_parts s.detail) s.cons.now s.labels.now };
+    ghost view = { λ s. fields_words s.fields ++ flat_map set_words s.doms.now ++ cost_left s.cost ++ count_left s.count ++ labelled con_parts s.cons.now s.labels.now };
 }
 
 /// The words of a residual problem that are left, in order. It is an iterator that takes no memory; contracts see it as
@@ -50,25 +48,6 @@ impl<'a> std::marker::Model for RestWords<'a> {
     ghost view = { λ s. few_words s.few ++ items_words s.items ++ s.ahead };
 }
 
-/// The number of variables, and what is to come: these domains, the cost, and the constraints in this detail.
-fn begin<'a>(rest: &'a Rest, doms: &'a [Runs], detail: Detail) -> RestWords<'a>
-    ensures { result ≡ pos (length rest.now.doms) ∷ flat_map set_words doms.now ++ list_words cost_words rest.now.cost ++ pos (length rest.now.cons) ∷ labelled (detail_parts detail) rest.now.cons rest.now.labels }
-{
-    RestWords {
-        few: Few::One(rest.doms.as_slice().len() as i128),
-        items: Items::Done,
-        ahead: Ahead {
-            fields: Fields::Done,
-            doms,
-            cost: Some(rest.cost.as_slice()),
-            count: Some(rest.cons.as_slice().len() as i128),
-            detail,
-            cons: rest.cons.as_slice(),
-            labels: rest.labels.as_slice(),
-        },
-    }
-}
-
 /// The words of a residual problem, in order: the number of variables, and for each the number of runs, then low and high
 /// of each; the number of cost terms, then coefficient and variable of each; the number of constraints, then for each its
 /// label, the number of its kind and its parts. Takes no memory.
@@ -76,15 +55,18 @@ fn begin<'a>(rest: &'a Rest, doms: &'a [Runs], detail: Detail) -> RestWords<'a>
 pub fn words(rest: &Rest) -> RestWords<'_>
     ensures { result ≡ words_of rest.now }
 {
-    begin(rest, rest.doms.as_slice(), Detail::All)
-}
-
-/// The words that the far digest takes, in order.
-#[tactic(auto, unfolding(crate::specs::Words::far_words))]
-pub(crate) fn far_words(rest: &Rest) -> RestWords<'_>
-    ensures { result ≡ far_words rest.now }
-{
-    begin(rest, &[], Detail::Far)
+    RestWords {
+        few: Few::One(rest.doms.as_slice().len() as i128),
+        items: Items::Done,
+        ahead: Ahead {
+            fields: Fields::Done,
+            doms: rest.doms.as_slice(),
+            cost: Some(rest.cost.as_slice()),
+            count: Some(rest.cons.as_slice().len() as i128),
+            cons: rest.cons.as_slice(),
+            labels: rest.labels.as_slice(),
+        },
+    }
 }
 
 impl<'a> Ahead<'a> {
@@ -109,7 +91,7 @@ impl<'a> Ahead<'a> {
         let (label, labels) = self.labels.split_first()?;
         self.cons = cons;
         self.labels = labels;
-        let (few, fields) = con_fields(con, self.detail);
+        let (few, fields) = con_fields(con);
         self.fields = fields;
         Some(Field {
             word: i128::from(*label),

@@ -153,12 +153,7 @@ fn begins_below(used: &[Used], apart: bool, other: &[Used], other_apart: bool, r
     requires other_apart { TellsApart other_apart other.now }
     ensures { IsTrue result ↔ BeginsBelow used.now other.now room.now }
 {
-    for part in used {
-        if !is_below_at(used, apart, other, other_apart, room, &part.from) {
-            return false;
-        }
-    }
-    true
+    used.iter().all(|part| is_below_at(used, apart, other, other_apart, room, &part.from))
 }
 
 /// Whether it is wherever one of the second amounts ends.
@@ -170,12 +165,7 @@ fn ends_below(used: &[Used], apart: bool, other: &[Used], other_apart: bool, roo
     requires other_apart { TellsApart other_apart other.now }
     ensures { IsTrue result ↔ EndsBelow used.now other.now room.now }
 {
-    for part in other {
-        if !is_below_at(used, apart, other, other_apart, room, &part.to) {
-            return false;
-        }
-    }
-    true
+    other.iter().all(|part| is_below_at(used, apart, other, other_apart, room, &part.to))
 }
 
 /// Whether the first amounts are above the second by at most the room at each moment. The difference rises only where one

@@ -1,4 +1,4 @@
-use Rattle.fzn_builtin.specs.Internals.{HasArguments}
+use Rattle.fzn_builtin.specs.Reading.{HasArguments}
 use Rattle.fzn_builtin.proofs.ArgumentsRead.{has_arguments}
 use Rattle.fzn_builtin.proofs.Keeping.{answer_kept, answer_true}
 use Rattle.fzn_builtin.proofs.building.build.Goals as goal

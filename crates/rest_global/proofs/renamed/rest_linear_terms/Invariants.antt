@@ -3,4 +3,4 @@ use Rattle.rest_global.specs.Projection.{rest_term}
 use Rattle.rest_global.proofs.renamed.rest_linear_terms.Given as goal
 
 abbrev pub invariant-loop-term : goal.invariant-loop-term
-invariant-loop-term g l = l.renamed ≡ map (λ p. (p.0, rest_term (g.V.BoxView.shape l.view) p.1)) (take l.term-index l.terms)
+invariant-loop-term g l = l.renamed.items ≡ map (λ p. (p.0, rest_term (g.V.BoxView.shape l.view) p.1)) (take l.term-index l.terms)

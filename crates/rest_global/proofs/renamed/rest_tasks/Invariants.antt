@@ -4,4 +4,4 @@ use Rattle.rest_global.specs.Renamed.{task_by}
 use Rattle.rest_global.proofs.renamed.rest_tasks.Given as goal
 
 abbrev pub invariant-loop-task : goal.invariant-loop-task
-invariant-loop-task g l = l.renamed ≡ map (task_by (rest_term (g.V.BoxView.shape l.view))) (take l.task-index l.tasks)
+invariant-loop-task g l = l.renamed.items ≡ map (task_by (rest_term (g.V.BoxView.shape l.view))) (take l.task-index l.tasks)

@@ -1,14 +1,9 @@
-use Rattle.std.proofs.Common.{rules, FitsSigned}
-use Rattle.std.specs.Int.{w128}
-use Rattle.std.proofs.lemmas.Int.{to_z-of_z}
+use Rattle.std.proofs.Common.{subst}
+use Rattle.fzn_model.specs.Limits.{IsModel}
+use Rattle.rest_global.proofs.MadeRest.{projected_means}
 use Rattle.rest_global.proofs.rest.project.Goals as goal
-
-pub returns-clause-exact : goal.returns-clause-exact
-returns-clause-exact g c =
-    let fits : FitsSigned w128 c.in_ok-rest.offset = search rules in
-    c.within_limit.ensures.exact (g.V.BoxView.shape c.args.view.now) c.args.model.now c.args.below (simp to_z-of_z (c.in_ok-rest.ensures.exact c.args.below))
 
 pub returns-clause-means : goal.returns-clause-means
 returns-clause-means g c =
-    let fits : FitsSigned w128 c.in_ok-rest.offset = search rules in
-    c.within_limit.ensures.means (g.V.BoxView.shape c.args.view.now) c.args.model.now c.args.below (simp to_z-of_z (c.in_ok-rest.ensures.means c.args.below)) (simp to_z-of_z c.in_ok-rest.ensures.offset)
+    let model : IsModel c.args.model.now = subst IsModel c.model.view_is c.model.invariant in
+    projected_means (g.V.BoxView.shape c.args.view.now) c.args.model.now c.args.below c.args.limit _ c.in_ok-numbering.ensures.well_formed model c.requires.within (c.in_ok-answer.ensures c.args.below)
