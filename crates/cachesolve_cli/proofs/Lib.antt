@@ -1,2 +1,4 @@
 pub mod Loading
+pub mod Solving
+pub mod Serving
 pub mod Endings

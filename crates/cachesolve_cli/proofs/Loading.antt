@@ -1,10 +1,11 @@
 -- What a source had left, from what was taken of it.
-use Rattle.std.proofs.Common.{◌≡◌, ℕ, ◌+◌, ◌-◌, ◌≤◌, ◌<◌, List, [], ◌++◌, length, take, drop, refl, arith, ◌∙◌, sym, ap, append-nil, length-append, true}
+use Rattle.std.proofs.Common.{◌≡◌, ℕ, ◌+◌, ◌-◌, ◌≤◌, ◌<◌, List, [], ◌++◌, length, take, drop, refl, arith, ◌∙◌, sym, ap, append-nil, length-append, true, subst}
 use Rattle.std.specs.Prelude.{Some, None, Err, nat_lt}
 use Rattle.std.specs.declared.option.Option.{Option}
 use Rattle.std.specs.Io.KnownBytes.{Consumes, IsAtEnd}
 use Rattle.std.proofs.lemmas.Bool.Decides.{nat_tests}
 use Rattle.std.proofs.lemmas.List.{take_all, drop_all}
+use Rattle.cs_base.specs.Chosen.{Chose}
 use denote.Ref.{Bor}
 use Rattle.fzn_reader.specs.declared.refused.Refused.{Refused}
 use Rattle.fzn_reader.specs.Reading.{reads, too_long}
@@ -32,6 +33,10 @@ long_refused (Some xs) (Some ys) bytes r token p h e n = record {
   refused = long_read xs (omega (arith, h, ap length p, length-append bytes ys)) ∙ ap (λ x. Err x) (sym e);
   shown = n ∙ sym (ap (λ x. take (x.to - x.from) (drop x.from xs)) e);
 }
+
+-- what was chosen stays
+pub chose_same : (before now : Option (Option (List ℕ))) (name : Option (List ℕ)) → now ≡ before → Chose before name → Chose now name
+chose_same before now name e p = subst (λ (x : Option (Option (List ℕ))). Chose x name) (sym e) p
 
 -- the bytes behind, and at the front
 pub none_behind : (n : ℕ) (xs : List ℕ) → length xs ≤ n → [] ≡ drop n xs

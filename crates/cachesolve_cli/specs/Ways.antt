@@ -42,12 +42,16 @@ status_of (ending.Refused r token) = 5
 status_of ending.ReadFailed = 6
 status_of ending.WriteFailed = 7
 
+-- what is said of wrong words: how to use the program
+abbrev pub usage : List ℕ
+usage = codes "cachesolve: wrong words; use cachesolve [-p N] [-s] [--cache N] [--key-words N] [--nodes N] [--log] [--make N] [FILE]\n"
+
 -- the message
 abbrev pub message_of : Ending → List ℕ
 message_of ending.Decided = []
 message_of (ending.Undecided why.Budget) = []
 message_of (ending.Undecided why.Memory) = codes "cachesolve: out of memory\n"
-message_of ending.WrongWords = codes "cachesolve: wrong words\n"
+message_of ending.WrongWords = usage
 message_of ending.NoMemory = codes "cachesolve: out of memory\n"
 message_of (ending.Refused r token) = refusal_text r.line (name_of r.code) token.now
 message_of ending.ReadFailed = codes "cachesolve: read failed\n"

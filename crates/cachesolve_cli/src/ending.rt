@@ -21,6 +21,10 @@ pub enum Ending<'a> {
     WriteFailed,
 }
 
+/// What is said of wrong words: how to use the program.
+const USAGE: &[u8] =
+    b"cachesolve: wrong words; use cachesolve [-p N] [-s] [--cache N] [--key-words N] [--nodes N] [--log] [--make N] [FILE]\n";
+
 /// The name of a reason for refusing a model.
 fn name_of(code: Code) -> &'static [u8]
     ensures { result.now ≡ name_of code }
@@ -68,7 +72,7 @@ impl Ending<'_> {
         match self {
             Ending::Decided | Ending::Undecided(Why::Budget) => write_whole(err, b""),
             Ending::Undecided(Why::Memory) => write_whole(err, b"cachesolve: out of memory\n"),
-            Ending::WrongWords => write_whole(err, b"cachesolve: wrong words\n"),
+            Ending::WrongWords => write_whole(err, USAGE),
             Ending::NoMemory => write_whole(err, b"cachesolve: out of memory\n"),
             Ending::Refused(refused, token) => {
                 write_refusal(err, refused.line, name_of(refused.code), token)

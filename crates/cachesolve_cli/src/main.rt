@@ -1,14 +1,14 @@
-//! The program: a FlatZinc file from standard input, its answer on standard output.
+//! The program: a FlatZinc file, or a model made from a number; its answer on standard output.
 //!
 //! What it is for: [`running::run`] is the one call that the program makes, and the place where all that is promised to a
 //! user stands.
 //!
-//! What it promises: a run that ends with status 0 has written exactly the text of a right answer for the model of its
-//! input, each other status has its cause and its message, and a model is decided where memory, the node budget and the calls
+//! What it promises: a run that ends with status 0 has written exactly the text of a right answer for the model that its words
+//! ask for, each other status has its cause and its message, and a model is decided where memory, the node budget and the calls
 //! of the system allow. `specs/Headline.antt` has the words of these promises, `specs/Ways.antt` the statuses and messages of a run, and
 //! `specs/Words.antt` those where the program's words can't be had.
 //!
-//! What it stands on: cs_base, fzn_model, fzn_parser, solver, solution_out. That `main` asks the system for the words, and
+//! What it stands on: cs_base, command_line, fzn_model, fzn_parser, model_gen, solver, solution_out. That `main` asks the system for the words, and
 //! hands them with the real input and outputs to `run`, is trusted; what it makes of them is proved.
 #![tactic(auto)]
 

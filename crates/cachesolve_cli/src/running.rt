@@ -1,31 +1,37 @@
-ghost use Rattle.std.specs.Prelude.{◌≡◌, ◌⊎◌, ◌↔◌, ◌≤◌, ◌^◌, [], IfOk, IfErr, Err, Some, take, drop};
-ghost use Rattle.std.specs.Io.KnownBytes.{Appends, Keeps};
-ghost use Rattle.cs_base.specs.Causes.{Rose, AppendsFront};
-ghost use Rattle.cachesolve_cli.specs.Headline.{IsDecidedRun, IsBudgetRun, IsMemoryRun, IsCutRun, IsModelFile, IsModelStatus, IsRefusedFile, IsRefusalStatus, IsTold};
-ghost use Rattle.cachesolve_cli.specs.Ways.{token_of, status_of, message_of, EndsOver};
-ghost use Rattle.incumbent_board.specs.Right.{IsDecided};
-ghost use Rattle.solver.specs.Outcomes.{LacksBudget, LacksMemory};
-ghost use Rattle.cachesolve_cli.specs.Stages.{IsAll, IsUnread, IsRead, IsAnswered, IsSilent};
-ghost use Rattle.cachesolve_cli.specs.declared.ending.Ending.TheVariants as ending;
+ghost use Rattle.std.specs.Prelude.{◌≡◌, ◌⊎◌, ◌≤◌, ◌^◌, true, IfOk, IfErr, OnOk, Some, None, take, drop, option_map};
+ghost use Rattle.std.specs.Io.KnownBytes.{Keeps};
+ghost use Rattle.cs_base.specs.Causes.{Rose};
+ghost use Rattle.cs_base.specs.Chosen.{Chose, name_of};
+ghost use Rattle.command_line.specs.Lines.{line, asked_of, is_in_limits};
+ghost use Rattle.model_gen.specs.Made.{made};
+ghost use Rattle.cachesolve_cli.specs.Headline.{IsDecidedRun, IsBudgetRun, IsMemoryRun, IsCutRun, IsModelRun, IsModelStatus, IsRefusedRun, IsRefusalStatus, ChoseFile, IsWithoutFile, IsTold};
+ghost use Rattle.cachesolve_cli.specs.Ways.{token_of, status_of};
+ghost use Rattle.cachesolve_cli.specs.Stages.{IsAll, EndsReading, EndsBy, EndsSolving, EndsFile, EndsAt, Says};
 
 use crate::ending::Ending;
+use command_line::{Line, read_words};
 use cs_base::{ReadFault, Sink, Source, Status, Whole, Words, read_all};
+use fzn_model::Model;
 use fzn_parser::{Code, ParseFault, Refused, parse};
-use solution_out::write_answer;
-use solver::{Answer, Meter, Options, Why, solve};
+use model_gen::make;
+use solution_out::write_outcome;
+use solver::{Answer, Meter, solve};
 use std::alloc::Global;
 use std::thread::Threads;
 
-/// All that the source has left, or how the run ends without it.
-#[tactic(auto, using(crate::proofs::Loading::all_taken, crate::proofs::Loading::long_refused))]
-fn fetch<S: Source>(alloc: Global, source: &mut S) -> Result<Vec<u8>, Ending<'static>>
+/// All that the source has left in the file, or in standard input, or how the run ends without it.
+#[tactic(auto, using(crate::proofs::Loading::all_taken, crate::proofs::Loading::long_refused, crate::proofs::Loading::chose_same))]
+fn fetch<S: Source>(
+    alloc: Global,
+    source: &mut S,
+    file: Option<&str>,
+) -> Result<Vec<u8>, Ending<'static>>
     ensures all { IfOk result (λ bytes. IsAll (S.left source.old) bytes.items) }
-    ensures ends { IfErr result (EndsOver (S.left source.old)) }
-    ensures which { IfErr result IsUnread }
-    ensures fault { result ≡ Err ending.ReadFailed → Rose (S.faults source.old) (S.faults source.new) }
-    ensures kept { (result ≡ Err ending.ReadFailed → ⊥) → S.faults source.new ≡ S.faults source.old }
+    ensures chosen { OnOk result (Chose (S.chosen source.new) (name_of file.entry)) }
+    ensures kept { OnOk result (S.faults source.new ≡ S.faults source.old) }
+    ensures ends { IfErr result (EndsReading (S.left source.old) (S.chosen source.new) (name_of file.entry) (S.faults source.old) (S.faults source.new)) }
 {
-    if source.begin(None).is_err() {
+    if source.begin(file).is_err() {
         return Err(Ending::ReadFailed);
     }
     match read_all(alloc, source, 67_108_864) {
@@ -75,21 +81,9 @@ fn token_of(refused: Refused, bytes: &[u8]) -> &[u8]
     front(behind(bytes, refused.from as usize), count as usize)
 }
 
-/// How a search is made: by one worker, with 65,536 ways of the cache, keys of at most 512 words, and at most 1,000,000,000
-/// nodes.
-const DEFAULTS: Options = Options {
-    workers: 1,
-    ways: 65_536,
-    key_words: 512,
-    nodes: 1_000_000_000,
-};
-
 /// How a run ends whose answer was written.
 fn ending_of(answer: &Answer) -> Ending<'static>
-    ensures decided { result ≡ ending.Decided → IsDecided answer.now }
-    ensures budget { result ≡ ending.Undecided Why.Budget → LacksBudget answer.now }
-    ensures memory { result ≡ ending.Undecided Why.Memory → LacksMemory answer.now }
-    ensures which { IsAnswered result }
+    ensures { EndsBy answer.now result }
 {
     match answer {
         Answer::Undecided(_, why) => Ending::Undecided(*why),
@@ -97,24 +91,52 @@ fn ending_of(answer: &Answer) -> Ending<'static>
     }
 }
 
-/// Reads the model, solves it, and writes the answer.
+/// The number of a model to make, as it was given.
+fn word_of<'a>(line: &Line<'a>) -> Option<&'a str>
+    ensures { name_of result ≡ option_map (λ number. number.0) (asked_of line.now).make }
+{
+    match line.make {
+        Some((word, _)) => Some(word),
+        None => None,
+    }
+}
+
+/// Solves the model, and writes what came of it.
+#[tactic(auto, using(crate::proofs::Solving::options_allowed, crate::proofs::Solving::is_outcome, crate::proofs::Solving::written, crate::proofs::Solving::cut, crate::proofs::Solving::nothing_written))]
+fn settle<R: Threads + Sync, O: Sink>(
+    rt: &R,
+    alloc: Global,
+    line: &Line<'_>,
+    model: &Model,
+    out: &mut O,
+    meter: &mut Meter,
+) -> Ending<'static>
+    requires options { is_in_limits line.now.options ≡ true }
+    requires meter { (meter.old.count ≤ 2 ^ 100) × (meter.old.closed ≤ 2 ^ 100) }
+    ensures { EndsSolving (asked_of line.now) model.now meter.old meter.new (O.written out.old) (O.written out.new) (O.faults out.old) (O.faults out.new) result }
+{
+    let Ok(outcome) = solve(rt, alloc, model, &line.options, meter) else {
+        return Ending::NoMemory;
+    };
+    match write_outcome(out, word_of(line), line.stats, model, &outcome) {
+        Ok(()) => ending_of(&outcome.answer),
+        Err(_) => Ending::WriteFailed,
+    }
+}
+
+/// Reads the model of a file, solves it, and writes what came of it.
+#[tactic(auto, using(crate::proofs::Solving::file_read, crate::proofs::Serving::keeps_same))]
 fn proceed<'a, R: Threads + Sync, O: Sink>(
     rt: &R,
     alloc: Global,
+    line: &Line<'_>,
     bytes: &'a [u8],
     out: &mut O,
     meter: &mut Meter,
 ) -> Ending<'a>
+    requires options { is_in_limits line.now.options ≡ true }
     requires meter { (meter.old.count ≤ 2 ^ 100) × (meter.old.closed ≤ 2 ^ 100) }
-    ensures decided { result ≡ ending.Decided → IsDecidedRun (Some bytes.now) meter.old meter.new (O.written out.old) (O.written out.new) }
-    ensures cut { result ≡ ending.WriteFailed → IsCutRun (Some bytes.now) meter.old meter.new (O.written out.old) (O.written out.new) }
-    ensures budget { result ≡ ending.Undecided Why.Budget → IsBudgetRun (Some bytes.now) meter.old meter.new (O.written out.old) (O.written out.new) }
-    ensures memory { result ≡ ending.Undecided Why.Memory → IsMemoryRun (Some bytes.now) meter.old meter.new (O.written out.old) (O.written out.new) }
-    ensures silent { IsSilent result → Keeps (O.written out.old) (O.written out.new) }
-    ensures ends { EndsOver (Some bytes.now) result }
-    ensures which { IsRead result }
-    ensures write { result ≡ ending.WriteFailed → Rose (O.faults out.old) (O.faults out.new) }
-    ensures write_kept { (result ≡ ending.WriteFailed → ⊥) → O.faults out.new ≡ O.faults out.old }
+    ensures { EndsFile (asked_of line.now) bytes.now meter.old meter.new (O.written out.old) (O.written out.new) (O.faults out.old) (O.faults out.new) result }
 {
     let model = match parse(alloc, bytes) {
         Ok(model) => model,
@@ -123,28 +145,91 @@ fn proceed<'a, R: Threads + Sync, O: Sink>(
         }
         Err(ParseFault::NoMemory) => return Ending::NoMemory,
     };
-    let Ok(outcome) = solve(rt, alloc, &model, &DEFAULTS, meter) else {
-        return Ending::NoMemory;
-    };
-    match write_answer(out, &model, &outcome.answer) {
-        Ok(()) => ending_of(&outcome.answer),
-        Err(_) => Ending::WriteFailed,
+    settle(rt, alloc, line, &model, out, meter)
+}
+
+/// Makes a model from a number, solves it, and writes what came of it.
+#[tactic(auto, using(crate::proofs::Solving::nothing_written))]
+fn produce<R: Threads + Sync, O: Sink>(
+    rt: &R,
+    alloc: Global,
+    line: &Line<'_>,
+    number: u64,
+    out: &mut O,
+    meter: &mut Meter,
+) -> Ending<'static>
+    requires options { is_in_limits line.now.options ≡ true }
+    requires meter { (meter.old.count ≤ 2 ^ 100) × (meter.old.closed ≤ 2 ^ 100) }
+    ensures { EndsSolving (asked_of line.now) (made number) meter.old meter.new (O.written out.old) (O.written out.new) (O.faults out.old) (O.faults out.new) result }
+{
+    match make(alloc, number) {
+        Ok(model) => settle(rt, alloc, line, &model, out, meter),
+        Err(_) => Ending::NoMemory,
     }
 }
 
 /// Says how the run ended.
 fn finish<E: Sink>(end: &Ending, err: &mut E) -> Status
     ensures status { result.code ≡ status_of end.now }
-    ensures told { Appends (E.written err.old) (E.written err.new) (message_of end.now) ⊎ (Rose (E.faults err.old) (E.faults err.new) × AppendsFront (E.written err.old) (E.written err.new) (message_of end.now)) }
+    ensures says { Says (E.written err.old) (E.written err.new) (E.faults err.old) (E.faults err.new) end.now }
 {
     let _ = end.tell(err);
     Status { code: end.status() }
 }
 
-/// One call of the program: reads a FlatZinc file from standard input, solves it, and writes the answer.
+/// Does what good words ask for, and says how that ended.
+fn follow<R: Threads + Sync, S: Source, O: Sink, E: Sink>(
+    rt: &R,
+    alloc: Global,
+    asked: &Line<'_>,
+    source: &mut S,
+    out: &mut O,
+    err: &mut E,
+    meter: &mut Meter,
+) -> Status
+    requires options { is_in_limits asked.now.options ≡ true }
+    requires meter { (meter.old.count ≤ 2 ^ 100) × (meter.old.closed ≤ 2 ^ 100) }
+    ensures ends { EndsAt (Some (asked_of asked.now)) (S.left source.old) (S.chosen source.new) (S.faults source.old) (S.faults source.new) meter.old meter.new (O.written out.old) (O.written out.new) (O.faults out.old) (O.faults out.new) (E.written err.old) (E.written err.new) (E.faults err.old) (E.faults err.new) result.code }
+    ensures unread { IsWithoutFile (Some (asked_of asked.now)) → source.new ≡ source.old }
+{
+    if let Some((_, number)) = asked.make {
+        return finish(&produce(rt, alloc, asked, number, out, meter), err);
+    }
+    let bytes = match fetch(alloc, source, asked.file) {
+        Ok(bytes) => bytes,
+        Err(end) => return finish(&end, err),
+    };
+    let end = proceed(rt, alloc, asked, bytes.as_slice(), out, meter);
+    finish(&end, err)
+}
+
+/// The whole run, and how it ended.
+fn serve<R: Threads + Sync, S: Source, O: Sink, E: Sink>(
+    rt: &R,
+    alloc: Global,
+    words: &Words,
+    source: &mut S,
+    out: &mut O,
+    err: &mut E,
+    meter: &mut Meter,
+) -> Status
+    requires meter { (meter.old.count ≤ 2 ^ 100) × (meter.old.closed ≤ 2 ^ 100) }
+    ensures ends { EndsAt (line words.now) (S.left source.old) (S.chosen source.new) (S.faults source.old) (S.faults source.new) meter.old meter.new (O.written out.old) (O.written out.new) (O.faults out.old) (O.faults out.new) (E.written err.old) (E.written err.new) (E.faults err.old) (E.faults err.new) result.code }
+    ensures unread { IsWithoutFile (line words.now) → source.new ≡ source.old }
+{
+    let asked = match read_words(alloc, words) {
+        Ok(Some(asked)) => asked,
+        Ok(None) => return finish(&Ending::WrongWords, err),
+        Err(_) => return finish(&Ending::NoMemory, err),
+    };
+    follow(rt, alloc, &asked, source, out, err, meter)
+}
+
+/// One call of the program: reads a FlatZinc file, or makes a model from a number, solves it, and writes the answer.
 ///
-/// The words are refused where there are any. Want of memory ends with status 4; no clause says when it comes.
-#[tactic(auto, using(crate::proofs::Endings::decided, crate::proofs::Endings::wrong_words, crate::proofs::Endings::budget_spent, crate::proofs::Endings::read_failed, crate::proofs::Endings::write_failed, crate::proofs::Endings::unread_model, crate::proofs::Endings::unread_refused, crate::proofs::Endings::read_model, crate::proofs::Endings::read_refused, crate::proofs::Endings::decided_over, crate::proofs::Endings::cut_over, crate::proofs::Endings::budget_over, crate::proofs::Endings::memory_wanting, crate::proofs::Endings::ends_over, crate::proofs::Endings::silent, crate::proofs::Endings::told_words))]
+/// The words are `[-p N] [-s] [--cache N] [--key-words N] [--nodes N] [--log] [--make N] [FILE]`, without the program's
+/// name. Want of memory ends with status 4; no clause says when it comes.
+#[tactic(auto, using(crate::proofs::Endings::decided, crate::proofs::Endings::budget, crate::proofs::Endings::memory, crate::proofs::Endings::words, crate::proofs::Endings::refused_words, crate::proofs::Endings::model, crate::proofs::Endings::refused, crate::proofs::Endings::file, crate::proofs::Endings::read, crate::proofs::Endings::read_kept, crate::proofs::Endings::write, crate::proofs::Endings::write_kept, crate::proofs::Endings::cut, crate::proofs::Endings::silent, crate::proofs::Endings::told))]
 pub fn run<R: Threads + Sync, S: Source, O: Sink, E: Sink>(
     rt: &R,
     alloc: Global,
@@ -156,21 +241,27 @@ pub fn run<R: Threads + Sync, S: Source, O: Sink, E: Sink>(
 ) -> Status
     requires meter { (meter.old.count ≤ 2 ^ 100) × (meter.old.closed ≤ 2 ^ 100) }
 
-    // The headline: a decided run writes exactly the text of a right answer for the model that it read, and that answer is
-    // what listing all assignments would say.
-    ensures decided { result.code ≡ 0 → IsDecidedRun (S.left source.old) meter.old meter.new (O.written out.old) (O.written out.new) }
+    // The headline: a decided run writes exactly the text of a right answer for its model, and that answer is what listing
+    // all assignments would say.
+    ensures decided { result.code ≡ 0 → IsDecidedRun (line words.now) (S.left source.old) (S.chosen source.new) meter.old meter.new (O.written out.old) (O.written out.new) }
 
     // A run is undecided only where its node budget was spent, which is smaller than the number of assignments, or for want
     // of memory; what it writes then is right.
-    ensures budget { result.code ≡ 3 → IsBudgetRun (S.left source.old) meter.old meter.new (O.written out.old) (O.written out.new) }
-    ensures memory { result.code ≡ 4 → IsMemoryRun (S.left source.old) meter.old meter.new (O.written out.old) (O.written out.new) }
+    ensures budget { result.code ≡ 3 → IsBudgetRun (line words.now) (S.left source.old) (S.chosen source.new) meter.old meter.new (O.written out.old) (O.written out.new) }
+    ensures memory { result.code ≡ 4 → IsMemoryRun (line words.now) (S.left source.old) (S.chosen source.new) meter.old meter.new (O.written out.old) (O.written out.new) }
 
-    // Status 2 exactly where there are words.
-    ensures words { (result.code ≡ 2) ↔ (words.now ≡ [] → ⊥) }
+    // Status 2 only where the words are refused, and then no other one but for want of memory.
+    ensures words { result.code ≡ 2 → line words.now ≡ None }
+    ensures refused_words { line words.now ≡ None → (result.code ≡ 2) ⊎ (result.code ≡ 4) }
 
-    // Without words a model is decided and any other file is refused, but for want of memory and where a count of faults rose.
-    ensures model { words.now ≡ [] → IsModelFile (S.left source.old) → IsModelStatus (S.faults source.old) (S.faults source.new) (O.faults out.old) (O.faults out.new) result.code }
-    ensures refused { words.now ≡ [] → IsRefusedFile (S.left source.old) → IsRefusalStatus (S.faults source.old) (S.faults source.new) result.code }
+    // With good words a model is decided and any other file is refused, but for want of memory or nodes and where a count of
+    // faults rose.
+    ensures model { IsModelRun (line words.now) (S.left source.old) → IsModelStatus (S.faults source.old) (S.faults source.new) (O.faults out.old) (O.faults out.new) result.code }
+    ensures refused { IsRefusedRun (line words.now) (S.left source.old) → IsRefusalStatus (S.faults source.old) (S.faults source.new) result.code }
+
+    // A file is refused only where it is the one that was asked for; and nothing is read where none was.
+    ensures file { result.code ≡ 5 → ChoseFile (line words.now) (S.chosen source.new) }
+    ensures unread { IsWithoutFile (line words.now) → source.new ≡ source.old }
 
     // 6 and 7 only where that count of faults rose, and no other status where it did.
     ensures read { result.code ≡ 6 → Rose (S.faults source.old) (S.faults source.new) }
@@ -179,19 +270,11 @@ pub fn run<R: Threads + Sync, S: Source, O: Sink, E: Sink>(
     ensures write_kept { (result.code ≡ 7 → ⊥) → O.faults out.new ≡ O.faults out.old }
 
     // A failed write leaves a part at the front of such a text; statuses 2, 5 and 6 leave what was written.
-    ensures cut { result.code ≡ 7 → IsCutRun (S.left source.old) meter.old meter.new (O.written out.old) (O.written out.new) }
+    ensures cut { result.code ≡ 7 → IsCutRun (line words.now) (S.left source.old) (S.chosen source.new) meter.old meter.new (O.written out.old) (O.written out.new) }
     ensures silent { (result.code ≡ 2) ⊎ (result.code ≡ 5) ⊎ (result.code ≡ 6) → Keeps (O.written out.old) (O.written out.new) }
 
     // What is said on `err`, and which statuses there are.
     ensures told { IsTold (S.left source.old) (E.written err.old) (E.written err.new) (E.faults err.old) (E.faults err.new) result.code }
 {
-    if !words.is_empty() {
-        return finish(&Ending::WrongWords, err);
-    }
-    let bytes = match fetch(alloc, source) {
-        Ok(bytes) => bytes,
-        Err(end) => return finish(&end, err),
-    };
-    let end = proceed(rt, alloc, bytes.as_slice(), out, meter);
-    finish(&end, err)
+    serve(rt, alloc, words, source, out, err, meter)
 }

@@ -1,11 +1,68 @@
-ghost use Rattle.std.specs.Prelude.{◌≤◌};
+ghost use Rattle.std.specs.Prelude.{◌≤◌, Some, None};
+ghost use Rattle.cs_base.specs.Chosen.{name_of};
 
 use crate::running::run;
-use cs_base::{MemSink, MemSource, Words};
+use cs_base::{Failed, MemSink, MemSource, Source, Words};
 use solver::Meter;
 use std::alloc::{AllocError, Global};
 use std::test::Fail;
 use std::thread::Threads;
+
+const FIRST: &str = "first.fzn";
+
+const SECOND: &str = "second one.fzn";
+
+/// Standard input and two files in memory. It tells which one was chosen.
+#[derive(Drop)]
+struct TwoFiles {
+    chosen: Option<&'static str>,
+    at: usize,
+    faults: u64,
+}
+
+impl TwoFiles {
+    fn bytes(&self) -> &'static [u8] {
+        match self.chosen {
+            None => b"solve satisfy;",
+            Some(name) if name == FIRST => b"var 1..3: x :: output_var; solve minimize x;",
+            Some(_) => b"var 7..9: x :: output_var; solve minimize x;",
+        }
+    }
+}
+
+impl Source for TwoFiles {
+    ghost left = { λ _. None };
+
+    ghost chosen = { λ s. Some (name_of s.chosen) };
+
+    ghost faults = { λ s. s.faults };
+
+    fn begin(&mut self, name: Option<&str>) -> Result<(), Failed> {
+        let chosen = match name {
+            None => None,
+            Some(name) if name == FIRST => Some(FIRST),
+            Some(name) if name == SECOND => Some(SECOND),
+            Some(_) => {
+                self.faults = self.faults.saturating_add(1);
+                return Err(Failed);
+            }
+        };
+        self.chosen = chosen;
+        self.at = 0;
+        Ok(())
+    }
+
+    fn read(&mut self, buf: &mut [u8]) -> Result<usize, Failed> {
+        let bytes = self.bytes();
+        let count = bytes.len().saturating_sub(self.at).min(buf.len());
+        if count == 0 {
+            return Ok(0);
+        }
+        buf[..count].copy_from_slice(&bytes[self.at..self.at + count]);
+        self.at += count;
+        Ok(count)
+    }
+}
 
 /// How a run ended, and what it wrote.
 #[derive(Drop)]
@@ -15,8 +72,37 @@ struct Run {
     err: Vec<u8>,
 }
 
-/// Runs without words, on a source that gives at most so many bytes a read, whose call `read_fails` fails, and on an
-/// output that takes one byte a write, whose write `write_fails` fails; 0 means none.
+/// The words of a command line.
+fn words_of(alloc: Global, words: &[&str]) -> Result<Words, AllocError> {
+    let mut all = Vec::new(alloc);
+    for word in words {
+        all.push(String::from_str(alloc, word)?)?;
+    }
+    Ok(Words::new(all))
+}
+
+/// Runs with these words, on this source, and on an output that takes one byte a write, whose write `write_fails` fails;
+/// 0 means none.
+fn run_from<R: Threads + Sync, S: Source>(
+    rt: &R,
+    alloc: Global,
+    words: &[&str],
+    source: &mut S,
+    write_fails: u64,
+) -> Result<Run, AllocError> {
+    let words = words_of(alloc, words)?;
+    let mut out = MemSink::new(alloc, 1000, 1, vec![in alloc; write_fails]?)?;
+    let mut err = MemSink::new(alloc, 1000, 1000, Vec::new(alloc))?;
+    let mut meter = Meter::new();
+    let status = run(rt, alloc, &words, source, &mut out, &mut err, &mut meter);
+    Ok(Run {
+        code: status.code,
+        out: Vec::from_slice(alloc, out.bytes())?,
+        err: Vec::from_slice(alloc, err.bytes())?,
+    })
+}
+
+/// The same without words, on a source that gives at most so many bytes a read, whose call `read_fails` fails.
 fn run_on<R: Threads + Sync>(
     rt: &R,
     alloc: Global,
@@ -27,29 +113,12 @@ fn run_on<R: Threads + Sync>(
 ) -> Result<Run, AllocError>
     requires { 1 ≤ most }
 {
-    let words = Words::new(Vec::new(alloc));
     let mut source = MemSource::new(
         Vec::from_slice(alloc, text)?,
         most,
         vec![in alloc; read_fails]?,
     );
-    let mut out = MemSink::new(alloc, 1000, 1, vec![in alloc; write_fails]?)?;
-    let mut err = MemSink::new(alloc, 1000, 1000, Vec::new(alloc))?;
-    let mut meter = Meter::new();
-    let status = run(
-        rt,
-        alloc,
-        &words,
-        &mut source,
-        &mut out,
-        &mut err,
-        &mut meter,
-    );
-    Ok(Run {
-        code: status.code,
-        out: Vec::from_slice(alloc, out.bytes())?,
-        err: Vec::from_slice(alloc, err.bytes())?,
-    })
+    run_from(rt, alloc, &[], &mut source, write_fails)
 }
 
 const LEAST: &[u8] = b"var 1..3: x :: output_var; solve minimize x;";
@@ -136,26 +205,94 @@ fn sources_are_read_to_the_limit(rt: HostRuntime) -> Result<(), Fail> {
     Ok(())
 }
 
+const USAGE: &[u8] =
+    b"cachesolve: wrong words; use cachesolve [-p N] [-s] [--cache N] [--key-words N] [--nodes N] [--log] [--make N] [FILE]\n";
+
+const UNEQUAL: &[u8] =
+    b"var 1..2: x :: output_var; var 1..2: y :: output_var; constraint int_ne(x,y); solve minimize x;";
+
+const KNAPSACK: &[u8] =
+    b"var 0..1: x1 :: output_var;\nvar 0..1: x2 :: output_var;\nvar 0..1: x3 :: output_var;\nvar 0..1: x4 :: output_var;\nvar 0..18: z :: output_var;\nconstraint int_lin_le([2,3,4,5],[x1,x2,x3,x4],5);\nconstraint int_lin_eq([3,4,5,6,-1],[x1,x2,x3,x4,z],0);\nsolve maximize z;\n";
+
+const KNAPSACK_OUT: &[u8] = b"x1 = 1;\nx2 = 1;\nx3 = 0;\nx4 = 0;\nz = 7;\n----------\n==========\n";
+
+/// Words and a file, with the status and what is written and said.
+type Row = (
+    &'static [&'static str],
+    &'static [u8],
+    u8,
+    &'static [u8],
+    &'static [u8],
+);
+
+#[rattlefmt::skip]
+static WITH_WORDS: [Row; 14] = [
+    (&["--nodes", "0"], UNEQUAL, 3, b"=====UNKNOWN=====\n% undecided: node budget\n", b""),
+    (&["--nodes", "4"], UNEQUAL, 0, b"x = 1;\ny = 2;\n----------\n==========\n", b""),
+    (&["-p", "1", "--cache", "0"], KNAPSACK, 0, KNAPSACK_OUT, b""),
+    (&["-p", "1"], KNAPSACK, 0, KNAPSACK_OUT, b""),
+    (&["-p", "64", "--cache", "8"], KNAPSACK, 0, KNAPSACK_OUT, b""),
+    (&["--nodes", "0"], b"var {}: x; solve satisfy;", 0, b"=====UNSATISFIABLE=====\n", b""),
+    (&["-s", "--cache", "8"], LEAST, 0, b"x = 1;\n----------\n==========\n%%%mzn-stat: nodes=1\n%%%mzn-stat: cacheHits=0\n%%%mzn-stat: cacheStores=1\n%%%mzn-stat: cacheGone=0\n%%%mzn-stat-end\n", b""),
+    (&["--make", "1", "--nodes", "0", "-s"], b"", 3, b"make 1\nverdict undecided\n%%%mzn-stat: nodes=0\n%%%mzn-stat: cacheHits=0\n%%%mzn-stat: cacheStores=0\n%%%mzn-stat: cacheGone=0\n%%%mzn-stat-end\n", b""),
+    (&["--make=007", "--nodes=0"], b"", 3, b"make 007\nverdict undecided\n", b""),
+    (&["--cache", "1048576", "--key-words", "4096"], LEAST, 2, b"", USAGE),
+    (&["--log", "-p", "2"], LEAST, 2, b"", USAGE),
+    (&["--make", "1", "f.fzn"], LEAST, 2, b"", USAGE),
+    (&["-p", "0"], LEAST, 2, b"", USAGE),
+    (&["-s", "-s"], LEAST, 2, b"", USAGE),
+];
+
 #[test]
-fn words_are_refused(rt: HostRuntime) -> Result<(), Fail> {
-    let alloc = rt.alloc();
-    let words = Words::new(vec![in alloc; String::from_str(alloc, "-s")?]?);
-    let mut source = MemSource::new(Vec::from_slice(alloc, LEAST)?, 1, Vec::new(alloc));
-    let mut out = MemSink::new(alloc, 1000, 1, Vec::new(alloc))?;
-    let mut err = MemSink::new(alloc, 1000, 1000, Vec::new(alloc))?;
-    let mut meter = Meter::new();
-    let status = run(
-        &rt,
-        alloc,
-        &words,
-        &mut source,
-        &mut out,
-        &mut err,
-        &mut meter,
-    );
-    assert_eq!(rt; status.code, 2);
-    assert_eq!(rt; out.bytes().len(), 0);
-    assert_eq!(rt; err.bytes(), b"cachesolve: wrong words\n".as_slice());
+fn words_have_their_answers(rt: HostRuntime) -> Result<(), Fail> {
+    for (words, text, code, out, err) in &WITH_WORDS {
+        let mut source = MemSource::new(
+            Vec::from_slice(rt.alloc(), text)?,
+            64,
+            Vec::new(rt.alloc()),
+        );
+        let run = run_from(&rt, rt.alloc(), words, &mut source, 0)?;
+        assert_eq!(rt; run.code, *code, "{words:?}");
+        assert_eq!(rt; run.out.as_slice(), *out, "{words:?}");
+        assert_eq!(rt; run.err.as_slice(), *err, "{words:?}");
+    }
+    Ok(())
+}
+
+/// The same number makes the same model, and the same search of it.
+#[test]
+fn made_models_are_the_same(rt: HostRuntime) -> Result<(), Fail> {
+    let words = ["--make", "1", "--nodes", "10000", "-s"];
+    let mut source = MemSource::new(Vec::new(rt.alloc()), 1, Vec::new(rt.alloc()));
+    let first = run_from(&rt, rt.alloc(), &words, &mut source, 0)?;
+    let second = run_from(&rt, rt.alloc(), &words, &mut source, 0)?;
+    assert!(rt; first.code == 0 || first.code == 3);
+    assert_eq!(rt; first.code, second.code);
+    assert_eq!(rt; first.out.as_slice(), second.out.as_slice());
+    assert!(rt; first.out.as_slice().starts_with(b"make 1\nverdict "));
+    Ok(())
+}
+
+/// A file that is named is read, and not another one, nor standard input; one that isn't there is a failed read.
+#[test]
+fn named_files_are_read(rt: HostRuntime) -> Result<(), Fail> {
+    #[rattlefmt::skip]
+    let rows: [(&[&str], u8, &[u8]); 4] = [
+        (&[], 0, b"----------\n"),
+        (&["first.fzn"], 0, b"x = 1;\n----------\n==========\n"),
+        (&["--", "second one.fzn"], 0, b"x = 7;\n----------\n==========\n"),
+        (&["third.fzn"], 6, b""),
+    ];
+    for (words, code, out) in &rows {
+        let mut source = TwoFiles {
+            chosen: None,
+            at: 0,
+            faults: 0,
+        };
+        let run = run_from(&rt, rt.alloc(), words, &mut source, 0)?;
+        assert_eq!(rt; run.code, *code, "{words:?}");
+        assert_eq!(rt; run.out.as_slice(), *out, "{words:?}");
+    }
     Ok(())
 }
 

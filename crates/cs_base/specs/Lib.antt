@@ -1,3 +1,4 @@
 pub mod Causes
+pub mod Chosen
 pub mod Taken
 pub mod Memory

@@ -1,4 +1,4 @@
-ghost use Rattle.std.specs.Prelude.{◌≡◌, ◌≤◌, ◌<◌, ◌++◌, ◌↔◌, [], drop, length, take, min, Contains, IsErr, IsTrue, IfOk, is_err, Some, IsFalse};
+ghost use Rattle.std.specs.Prelude.{◌≡◌, ◌≤◌, ◌<◌, ◌++◌, ◌↔◌, [], drop, length, take, min, Contains, IsErr, IsTrue, IfOk, is_err, Some, None, IsFalse};
 ghost use Rattle.std.specs.Io.{ReadsAtMost};
 ghost use Rattle.std.specs.Io.KnownBytes.{ReadConsumes};
 ghost use Rattle.cs_base.specs.Causes.{counted, HasCause};
@@ -8,7 +8,7 @@ use crate::failed::Failed;
 use crate::source::Source;
 use std::marker::Model;
 
-/// A source over bytes in memory, for tests: it gives at most `most` bytes at a time, and chosen calls of it fail.
+/// A source over bytes in memory, for tests, which are the same for each name: it gives at most `most` bytes at a time, and chosen calls of it fail.
 #[derive(Debug, Drop)]
 pub struct MemSource {
     bytes: Vec<u8>,
@@ -79,6 +79,8 @@ fn give(from: &[u8], most: usize, buf: &mut [u8]) -> usize
 
 impl Source for MemSource {
     ghost left = { λ s. Some s.left };
+
+    ghost chosen = { λ _. None };
 
     ghost faults = { λ s. s.faults };
 

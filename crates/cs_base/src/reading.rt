@@ -31,6 +31,7 @@ pub enum ReadFault {
 #[tactic(auto, using(crate::proofs::Bytes::consumes_none, crate::proofs::Bytes::consumes_more, crate::proofs::Bytes::consumes_kept))]
 pub fn read_all<S: Source>(alloc: Global, source: &mut S, limit: usize) -> Result<Whole, ReadFault>
     ensures taken { IsReading limit (S.left source.old) (S.left source.new) result }
+    ensures chosen { S.chosen source.new ≡ S.chosen source.old }
     ensures later { S.faults source.old ≤ S.faults source.new }
     ensures fault { result ≡ Err fault.Fault → Rose (S.faults source.old) (S.faults source.new) }
     ensures kept { (result ≡ Err fault.Fault → ⊥) → S.faults source.new ≡ S.faults source.old }

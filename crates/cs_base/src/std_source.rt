@@ -47,6 +47,8 @@ impl<'a, R: Input + Files> StdSource<'a, R> {
 impl<R: Input + Files> Source for StdSource<'_, R> {
     ghost left = { λ _. None };
 
+    ghost chosen = { λ _. None };
+
     ghost faults = { λ s. s.faults };
 
     /// An open that finds no memory counts as an error.

@@ -57,8 +57,10 @@ fn chosen_calls_fail(rt: HostRuntime) -> Result<(), Fail> {
 #[test]
 fn words_are_kept(rt: HostRuntime) -> Result<(), Fail> {
     let alloc = rt.alloc();
-    assert!(rt; Words::new(Vec::new(alloc)).is_empty());
-    assert!(rt; !Words::new(vec![in alloc; String::new(alloc)]?).is_empty());
+    assert!(rt; Words::new(Vec::new(alloc)).as_slice().is_empty());
+    let words = Words::new(vec![in alloc; String::new(alloc)]?);
+    assert_eq!(rt; words.as_slice().len(), 1);
+    assert_eq!(rt; words.as_slice()[0].len(), 0);
     Ok(())
 }
 

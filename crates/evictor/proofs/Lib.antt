@@ -2,3 +2,4 @@ pub mod Scanning
 pub mod Tidying
 pub mod Serving
 pub mod Scans
+pub mod Standings

@@ -16,7 +16,7 @@ use Rattle.evictor.specs.declared.put.Put.TheVariants as put
 use Rattle.evictor.specs.Puts.{IsThere, FindsNone, IsStored, Stores, place_for, IsPut}
 
 -- as many reports as places
-counts : (told : Option Contents) (words : List ℕ) (r : RestParts) (need : ℤ) (places : List ℕ) (reports : List Report) → AreReports told words r need places reports → length reports ≡ length places
+pub counts : (told : Option Contents) (words : List ℕ) (r : RestParts) (need : ℤ) (places : List ℕ) (reports : List Report) → AreReports told words r need places reports → length reports ≡ length places
 unfolding AreReports
 counts told words r need [] [] are = refl
 counts told words r need [] (q ∷ qs) are = absurd are

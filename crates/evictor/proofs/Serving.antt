@@ -23,7 +23,7 @@ use Rattle.evictor.specs.Tables.{entry_at, IsTidy, ChangesTable, KeepsTable, tab
 use Rattle.evictor.proofs.Tidying.{Swaps, some_none, some_of, where_zero, where_some, swapped}
 
 -- ---- what serves
-some_same : (x y : Bounded) → Some x ≡ Some y → x ≡ y
+pub some_same : (x y : Bounded) → Some x ≡ Some y → x ≡ y
 some_same x y is = ap (λ (o : Option Bounded). get x o) is
   where
     get : Bounded → Option Bounded → Bounded
@@ -31,11 +31,11 @@ some_same x y is = ap (λ (o : Option Bounded). get x o) is
     get d None = d
 
 -- the entry of a word that isn't 0
-under : (words : List ℕ) (entries : List (ℕ × Bounded)) (place : ℕ) → word_at words place ≢ 0 → entry_at words entries place ≡ entry_under entries (word_at words place - 1)
+pub under : (words : List ℕ) (entries : List (ℕ × Bounded)) (place : ℕ) → word_at words place ≢ 0 → entry_at words entries place ≡ entry_under entries (word_at words place - 1)
 unfolding entry_at
 under words entries place some = where_some (word_at words place) None (entry_under entries (word_at words place - 1)) some
 
-none_at : (words : List ℕ) (entries : List (ℕ × Bounded)) (place : ℕ) → word_at words place ≡ 0 → entry_at words entries place ≡ None
+pub none_at : (words : List ℕ) (entries : List (ℕ × Bounded)) (place : ℕ) → word_at words place ≡ 0 → entry_at words entries place ≡ None
 unfolding entry_at
 none_at words entries place zeroed = where_zero (word_at words place) None (entry_under entries (word_at words place - 1)) zeroed
 
@@ -165,7 +165,7 @@ put_over words place key e old middle new inside some tidy adds takes =
       as_many = λ _. omega (arith, fewer, adds.count);
     }
 
-contents_same : (c c' : Contents) → Some c ≡ Some c' → c ≡ c'
+pub contents_same : (c c' : Contents) → Some c ≡ Some c' → c ≡ c'
 contents_same c c' is = ap (λ (o : Option Contents). get c o) is
   where
     get : Contents → Option Contents → Contents

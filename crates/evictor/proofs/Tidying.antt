@@ -33,10 +33,10 @@ not_true : (b : Bool) → (b ≡ true → ⊥) → b ≡ false
 not_true true not_so = absurd (not_so refl)
 not_true false not_so = refl
 
-by_equal : (j k : ℕ) → j ≡ k → (j == k) ≡ true
+pub by_equal : (j k : ℕ) → j ≡ k → (j == k) ≡ true
 by_equal j k same = eq-eqb j k same
 
-by_other : (j k : ℕ) → j ≢ k → (j == k) ≡ false
+pub by_other : (j k : ℕ) → j ≢ k → (j == k) ≡ false
 by_other j k other = not_true (j == k) (λ yes. other (eqb-true j k yes))
 
 pub where_zero : {X : Type 0} → (n : ℕ) (x y : X) → n ≡ 0 → (if n == 0 then x else y) ≡ x

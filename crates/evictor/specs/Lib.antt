@@ -6,3 +6,4 @@ pub mod Tables
 pub mod Misses
 pub mod Looks
 pub mod Puts
+pub mod Standings

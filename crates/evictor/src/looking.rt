@@ -4,6 +4,7 @@ ghost use Rattle.std.specs.Prelude.{◌≡◌, ◌↔◌, true, false, IfSome};
 ghost use Rattle.evictor.specs.Looks.{IsLook};
 ghost use Rattle.evictor.specs.Puts.{IsPut};
 ghost use Rattle.evictor.specs.Tables.{KeepsTable, FindsExactly};
+ghost use Rattle.evictor.specs.Standings.{LooksAt, PutsAt};
 
 use crate::cache::Cache;
 use crate::look::{Look, Missed};
@@ -28,6 +29,7 @@ impl Cache {
     ) -> Look<'a>
         requires { reader.old.pass.cache ≡ self.now }
         ensures look { IsLook rest.now need result reader.old reader.new }
+        ensures stands { LooksAt rest.now need result reader.old reader.new }
         ensures cache { reader.new.pass.cache ≡ reader.old.pass.cache }
     {
         if self.ways == 0 {
@@ -66,6 +68,7 @@ impl Cache {
         ensures put { IsPut entry reader.old result reader.new }
         ensures table { KeepsTable result entry reader.old reader.new }
         ensures there { FindsExactly entry reader.old result }
+        ensures stands { PutsAt entry result reader.old reader.new }
         ensures cache { reader.new.pass.cache ≡ reader.old.pass.cache }
     {
         if self.ways == 0 {

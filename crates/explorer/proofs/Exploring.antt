@@ -12,7 +12,7 @@ use Rattle.evictor.specs.Readers.{ReaderParts}
 use Rattle.search_core.specs.declared.decision.Decision.{Decision}
 use Rattle.search_core.specs.Paths.{Settled}
 use Rattle.search_core.specs.Locals.{LocalParts}
-use Rattle.explorer.specs.Benches.{IsBench}
+use Rattle.explorer.specs.Benches.{IsBench, IsAble}
 use Rattle.explorer.specs.Offers.{Kept}
 use Rattle.explorer.specs.Holding.{times_held, times_in, same_path}
 use Rattle.explorer.specs.Telling.{SameTasks, IsClosed}
@@ -215,11 +215,11 @@ pub whole_runs : (k : Task) (t u n o : Bench) (x y : Held) (l j : LocalParts) (r
 whole_runs k t u n o x y l j r s b c f g bench begin e h = moved_runs (aim k) t u n o x y l j r s b c f g (begin.plan ∙ sym bench.plan) e h
 
 pub left_bench : (k : Task) (u n o : Bench) (x y : Held) (l j : LocalParts) (r s : ReaderParts) (b c : Meter) (f g : Kept) → IsBox (box_of k.model.now.doms) → IsStart k.model.now k.path.now u → ((area : List (List ℤ)) → HasLevels u area → HasLevels n area) → HasRun (aim k) (state u x l r b f) (state n y j s c g)
-    → ((area : List (List ℤ)) → HasLevels n area → o.store.box ≡ area) → ((area : List (List ℤ)) → HasLevels n area → o.store.saved ≡ []) → o.engine ≡ n.engine → o.here ≡ [] → o.frames ≡ [] → IsBench k.model.now o
+    → ((area : List (List ℤ)) → HasLevels n area → o.store.box ≡ area) → ((area : List (List ℤ)) → HasLevels n area → o.store.saved ≡ []) → o.engine ≡ n.engine → o.here ≡ [] → o.frames ≡ [] → IsAble o → IsBench k.model.now o
 unfolding HasRun
-left_bench k u n o x y l j r s b c f g full begin keeps run domains no_level plan here frames =
+left_bench k u n o x y l j r s b c f g full begin keeps run domains no_level plan here frames able =
     let lv : HasLevels n (box_of k.model.now.doms) = keeps (box_of k.model.now.doms) (start_levels k.model.now k.path.now u begin) in
-    record { domains = domains (box_of k.model.now.doms) lv; full = full; no_level = no_level (box_of k.model.now.doms) lv; plan = plan ∙ run.plan ∙ begin.plan; no_path = here; no_frame = frames }
+    record { domains = domains (box_of k.model.now.doms) lv; full = full; no_level = no_level (box_of k.model.now.doms) lv; plan = plan ∙ run.plan ∙ begin.plan; no_path = here; no_frame = frames; able = able }
 
 -- ---- the answer
 module _ (k : Task) (t n : Bench) (x y : Held) (l j : LocalParts) (r s : ReaderParts) (b c : Meter) (f g : Kept) where

@@ -2,8 +2,10 @@
 use Rattle.std.proofs.Common.{◌≡◌, ◌<◌, List, [], ◌∷◌, length, drop, refl, ap, ◌∙◌, subst, ℤ, arith}
 use Rattle.std.specs.Prelude.{slice_index_or}
 use Rattle.fzn_model.specs.Parts.{Parts}
-use Rattle.dom_store.specs.Stores.{Stored}
+use Rattle.dom_store.specs.Stores.{Stored, latest}
 use Rattle.search_core.specs.declared.decision.Decision.{Decision}
+use Rattle.prop_engine.specs.Plans.{IsReady}
+use Rattle.prop_engine.proofs.Ready.{ready_pushed}
 use Rattle.explorer.specs.Benches.{IsBench}
 use Rattle.explorer.specs.Frames.{Levels}
 use Rattle.explorer.specs.Ending.{IsStart, HasLevels}
@@ -11,7 +13,7 @@ use Rattle.explorer.specs.declared.bench.Bench.{Bench}
 use Rattle.explorer.specs.declared.frame.Frame.{Frame}
 use Rattle.explorer.proofs.Frames.{levels_length}
 
-pub starts : (m : Parts) (p : List Decision) (t n : Bench) → IsBench m t → n.store ≡ record t.store { saved = t.store.box ∷ t.store.saved } → n.here ≡ p → n.frames ≡ t.frames → n.engine ≡ t.engine → IsStart m p n
+pub starts : (m : Parts) (p : List Decision) (t n : Bench) → IsBench m t → n.store ≡ record t.store { saved = t.store.box ∷ t.store.saved; settled = latest t.store.settled ∷ t.store.settled } → n.here ≡ p → n.frames ≡ t.frames → n.engine ≡ t.engine → IsStart m p n
 starts m p t n b e here frames plan = record {
   domains = ap (λ (s : Stored). s.box) e ∙ b.domains;
   one_level = ap (λ (s : Stored). s.saved) e ∙ rw (b.domains, b.no_level) refl;
@@ -19,6 +21,9 @@ starts m p t n b e here frames plan = record {
   path = here;
   no_frame = frames ∙ b.no_frame;
 }
+
+pub able_started : (m : Parts) (t : Bench) (n : Stored) → IsBench m t → n ≡ record t.store { saved = t.store.box ∷ t.store.saved; settled = latest t.store.settled ∷ t.store.settled } → IsReady n t.engine
+able_started m t n b e = ready_pushed t.engine t.store n (ap (λ (s : Stored). s.settled) e) b.able
 
 less_cases : (f : Frame) (fs : List Frame) (saved root : List (List (List ℤ))) → Levels (f ∷ fs) saved root → Levels fs (drop 1 saved) root
 unfolding Levels

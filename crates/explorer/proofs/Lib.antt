@@ -5,6 +5,7 @@ mod Working
 mod Sides
 mod Frames
 mod Going
+mod Logs
 mod Opening
 mod Visiting
 mod Climbing

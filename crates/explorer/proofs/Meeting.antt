@@ -18,10 +18,10 @@ use Rattle.fzn_model.specs.Booleans.{IsBoolean, BaseBooleans, ConBooleans, FitsB
 use Rattle.fzn_model.specs.Rests.{LiesWithin}
 use Rattle.fzn_model.proofs.Wider.{con_of_call}
 use Rattle.dom_store.specs.Stores.{Stored}
-use Rattle.dom_store.specs.Narrowing.{Prunes, HasNone}
+use Rattle.dom_store.specs.Narrowing.{HasNone}
 use Rattle.dom_store.proofs.Laws.{in_before}
 use Rattle.prop_engine.specs.Plans.{Plan, plan_of, IsFor}
-use Rattle.prop_engine.specs.Fixing.{Cheaper, FixedMeans}
+use Rattle.prop_engine.specs.Fixing.{Cheaper, Fixes, FixedMeans}
 use Rattle.prop_engine.specs.declared.fixed.Fixed.{Fixed}
 use Rattle.prop_engine.specs.declared.fixed.Fixed.TheVariants as fixed
 use Rattle.search_core.specs.declared.decision.Decision.{Decision}
@@ -75,13 +75,13 @@ cheaper m plan b θ is solves less =
     let own : Cheaper (plan_of m) b θ = record { holds = solves.constraints; cheaper = less } in
     subst (λ (x : Plan). Cheaper x b θ) (sym is) own
 
-pub pruned_node : (m : Parts) (p : List Decision) (plan : Plan) (b : ℤ) (old new : Stored) → plan ≡ plan_of m → IsNode m p old.box b → Prunes (Cheaper plan b) old new → IsBox new.box → IsNode m p new.box b
-pruned_node m p plan b old new is node prunes domains = record {
-  keeps = λ θ solves meets less. prunes.loses.kept θ (node.keeps θ solves meets less) (cheaper m plan b θ is solves less);
-  lies = λ θ within. node.lies θ (in_before (Cheaper plan b) old.box new.box θ prunes.loses within);
+pub fixed_node : (m : Parts) (p : List Decision) (plan : Plan) (b : ℤ) (old new : Stored) → plan ≡ plan_of m → IsNode m p old.box b → Fixes plan b old new → IsBox new.box → IsNode m p new.box b
+fixed_node m p plan b old new is node fixes domains = record {
+  keeps = λ θ solves meets less. fixes.loses.kept θ (node.keeps θ solves meets less) (cheaper m plan b θ is solves less);
+  lies = λ θ within. node.lies θ (in_before (Cheaper plan b) old.box new.box θ fixes.loses within);
   within = record {
-    count = prunes.loses.count ∙ node.within.count;
-    within = λ k z has. node.within.within k z (prunes.loses.within k z has);
+    count = fixes.loses.count ∙ node.within.count;
+    within = λ k z has. node.within.within k z (fixes.loses.within k z has);
   };
   domains = domains;
 }

@@ -5,6 +5,8 @@ pub mod Expansions
 pub mod Holding
 pub mod Telling
 pub mod Works
+pub mod Trees
+pub mod RightLogs
 pub mod Explored
 pub mod Frames
 pub mod Looking

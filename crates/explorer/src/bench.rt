@@ -23,6 +23,7 @@ pub struct Bench {
     pub(crate) values: Vec<i64>,
 }
 
+#[tactic(auto, using(prop_engine::proofs::Ready::ready_first))]
 impl Bench {
     /// The bench of a model; `None` exactly where one of its domains is empty. Takes memory for the domains, the
     /// propagators and one value for each variable.

@@ -7,6 +7,7 @@ ghost use Rattle.incumbent_board.specs.Passes.{IsAlone};
 ghost use Rattle.evictor.specs.Looks.{IsLook};
 ghost use Rattle.explorer.specs.declared.frame.Turn.TheVariants as turn;
 ghost use Rattle.explorer.specs.declared.ticket.Ticket.TheVariants as ticket;
+ghost use Rattle.explorer.specs.Benches.{IsAble};
 ghost use Rattle.explorer.specs.Nodes.{IsNode};
 ghost use Rattle.explorer.specs.Holding.{times_held};
 ghost use Rattle.explorer.specs.Works.{IsCause};
@@ -92,9 +93,11 @@ fn start(
     requires room { local.old.expands ≤ 2 ^ 120 }
     requires held { 1 ≤ times_held bench.old.here local.old }
     requires both { HasBoth bench.old.store.box cut.now }
+    requires able { IsAble bench.old }
     ensures ok { OnOk result (Opens cut.now seen.now whole bench.old bench.new local.old local.new) }
     ensures err { OnErr result (IsStarted bench.old bench.new local.old local.new) }
     ensures memory { IfErr result (λ stop. stop ≡ Stop.NoMemory) }
+    ensures able { IsAble bench.new }
 {
     if tell_expand(local, &bench.here, *cut).is_err() {
         return Err(Stop::NoMemory);
@@ -129,8 +132,10 @@ fn open_wide<H: Shelf>(
     requires seen { seen.now ≡ pass.old.seen }
     requires both { HasBoth bench.old.store.box cut.now }
     requires wide { IsProjectedBelow task.now.model.now bench.old.store.box seen.now task.now.limit (Projected.Wide wide) }
+    requires able { IsAble bench.old }
     ensures ok { IfOk result (λ v. Goes (aim task.now) 1 Turn.Down (state bench.old pass.old local.old reader.now meter.old found.now) v (state bench.new pass.new local.new reader.now meter.new found.now)) }
     ensures err { IfErr result (λ why. Ends (aim task.now) Turn.Down (state bench.old pass.old local.old reader.now meter.old found.now) why (state bench.new pass.new local.new reader.now meter.new found.now)) }
+    ensures able { IsAble bench.new }
 {
     let _ = reader;
     let _ = found;
@@ -161,8 +166,10 @@ fn open_whole<H: Shelf>(
     requires seen { seen.now ≡ pass.old.seen }
     requires both { HasBoth bench.old.store.box cut.now }
     requires whole { IsProjectedBelow task.now.model.now bench.old.store.box seen.now task.now.limit (Projected.Whole whole.rest whole.offset) }
+    requires able { IsAble bench.old }
     ensures ok { IfOk result (λ v. Goes (aim task.now) 1 Turn.Down (state bench.old pass.old local.old reader.old meter.old found.now) v (state bench.new pass.new local.new reader.new meter.new found.now)) }
     ensures err { IfErr result (λ why. Ends (aim task.now) Turn.Down (state bench.old pass.old local.old reader.old meter.old found.now) why (state bench.new pass.new local.new reader.new meter.new found.now)) }
+    ensures able { IsAble bench.new }
 {
     let _ = found;
     let need = need(seen, &whole.offset);
@@ -202,8 +209,10 @@ fn open<H: Shelf>(
     requires seen { seen.now ≡ pass.old.seen }
     requires below { seen.now ≤ℤ task.now.board.now.top }
     requires both { HasBoth bench.old.store.box cut.now }
+    requires able { IsAble bench.old }
     ensures ok { IfOk result (λ v. Goes (aim task.now) 1 Turn.Down (state bench.old pass.old local.old reader.old meter.old found.now) v (state bench.new pass.new local.new reader.new meter.new found.now)) }
     ensures err { IfErr result (λ why. Ends (aim task.now) Turn.Down (state bench.old pass.old local.old reader.old meter.old found.now) why (state bench.new pass.new local.new reader.new meter.new found.now)) }
+    ensures able { IsAble bench.new }
 {
     match project_below(task, &bench.store, seen) {
         Ok(Projected::Wide(wide)) => open_wide(
@@ -234,8 +243,10 @@ fn visit<H: Shelf>(
     requires can { CanGo (aim task.now) Turn.Down (state bench.old pass.old local.old reader.old meter.old found.old) }
     requires seen { seen.now ≡ pass.old.seen }
     requires below { seen.now ≤ℤ task.now.board.now.top }
+    requires able { IsAble bench.old }
     ensures ok { IfOk result (λ v. Goes (aim task.now) 1 Turn.Down (state bench.old pass.old local.old reader.old meter.old found.old) v (state bench.new pass.new local.new reader.new meter.new found.new)) }
     ensures err { IfErr result (λ why. Ends (aim task.now) Turn.Down (state bench.old pass.old local.old reader.old meter.old found.old) why (state bench.new pass.new local.new reader.new meter.new found.new)) }
+    ensures able { IsAble bench.new }
 {
     match look(task, bench, seen, pass, local, found, meter) {
         Ok(Node::Closed(bound)) => {
@@ -261,8 +272,10 @@ pub(crate) fn descend<H: Shelf>(
     meter: &mut Meter,
 ) -> Result<Turn, Stop>
     requires can { CanGo (aim task.now) Turn.Down (state bench.old pass.old local.old reader.old meter.old found.old) }
+    requires able { IsAble bench.old }
     ensures ok { IfOk result (λ v. Goes (aim task.now) 1 Turn.Down (state bench.old pass.old local.old reader.old meter.old found.old) v (state bench.new pass.new local.new reader.new meter.new found.new)) }
     ensures err { IfErr result (λ why. Ends (aim task.now) Turn.Down (state bench.old pass.old local.old reader.old meter.old found.old) why (state bench.new pass.new local.new reader.new meter.new found.new)) }
+    ensures able { IsAble bench.new }
 {
     match listen(task, pass, local) {
         Ok(seen) => visit(task, bench, &seen, reader, pass, local, found, meter),

@@ -1,4 +1,4 @@
-ghost use Rattle.std.specs.Prelude.{◌≡◌, List, ℤ, length, IfOk, IfSome, IfNone, None, Some};
+ghost use Rattle.std.specs.Prelude.{◌≡◌, List, ℤ, length, pos, IfOk, IfSome, IfNone, None, Some};
 ghost use Rattle.explorer.specs.Offers.{with_cheaper, HasValues};
 
 use fzn_model::List;
@@ -59,9 +59,10 @@ impl Found {
 
     /// What the solution costs; 0 where none was found.
     pub fn cost(&self) -> i64
-        ensures { (best : List ℤ × ℤ) → self.now.best ≡ Some best → result ≡ best.1 }
+        ensures some { (best : List ℤ × ℤ) → self.now.best ≡ Some best → result ≡ best.1 }
+        ensures none { self.now.best ≡ None → result ≡ pos 0 }
     {
-        self.cost
+        if self.some { self.cost } else { 0 }
     }
 
     /// The values of the solution; `None` where none was found.

@@ -2,10 +2,10 @@
 ghost use Rattle.std.specs.Prelude.{◌≡◌, ◌≤◌, ◌^◌, ◌≤ℤ◌, List, IfOk, IfErr, OnOk, length, true, All, ℤ};
 ghost use Rattle.fzn_model.specs.Limits.{IsValue, IsNear};
 ghost use Rattle.fzn_model.specs.Solutions.{Solves, cost};
-ghost use Rattle.dom_store.specs.Narrowing.{Prunes};
-ghost use Rattle.prop_engine.specs.Plans.{plan_of, IsFor};
-ghost use Rattle.prop_engine.specs.Fixing.{Cheaper, FixedMeans};
+ghost use Rattle.prop_engine.specs.Plans.{plan_of, IsFor, IsReady};
+ghost use Rattle.prop_engine.specs.Fixing.{Fixes, FixedMeans};
 ghost use Rattle.search_core.specs.Paths.{Settled};
+ghost use Rattle.explorer.specs.Benches.{IsAble};
 ghost use Rattle.explorer.specs.Nodes.{IsNode};
 ghost use Rattle.explorer.specs.Offers.{IsOffer};
 ghost use Rattle.explorer.specs.Works.{IsCause};
@@ -57,10 +57,12 @@ pub(crate) fn listen(task: &Task, pass: &mut BoardPass, local: &mut Local) -> Re
 
 /// Narrows the store for solutions below the bound.
 fn fix_below(store: &mut Store, engine: &mut Engine, seen: &i64) -> Result<Fixed, AllocError>
-    requires { IsFor store.old.box engine.old }
+    requires fits { IsFor store.old.box engine.old }
+    requires ready { IsReady store.old engine.old }
     ensures same { engine.new ≡ engine.old }
-    ensures prunes { Prunes (Cheaper engine.old seen.now) store.old store.new }
+    ensures fixes { Fixes engine.old seen.now store.old store.new }
     ensures means { IfOk result (FixedMeans engine.old seen.now store.old.box store.new.box) }
+    ensures ready { IsReady store.new engine.new }
 {
     engine.fix(store, *seen)
 }
@@ -75,10 +77,12 @@ fn is_empty(
 ) -> Result<bool, AllocError>
     requires node { IsNode task.now.model.now here.now store.old.box seen.now }
     requires plan { engine.old ≡ plan_of task.now.model.now }
+    requires ready { IsReady store.old engine.old }
     ensures plan { engine.new ≡ engine.old }
     ensures saved { store.new.saved ≡ store.old.saved }
     ensures node { IsNode task.now.model.now here.now store.new.box seen.now }
     ensures settled { IfOk result (λ empty. empty ≡ true → Settled task.now.model.now here.now seen.now) }
+    ensures ready { IsReady store.new engine.new }
 {
     let model = task.model;
     let _kept = &model.cons;
@@ -185,10 +189,12 @@ pub(crate) fn look(
     requires seen { seen.now ≡ pass.old.seen }
     requires node { IsNode task.now.model.now bench.old.here bench.old.store.box seen.now }
     requires plan { bench.old.engine ≡ plan_of task.now.model.now }
+    requires able { IsAble bench.old }
     requires found { found.old.count ≡ length task.now.model.now.doms }
     ensures stays { StaysAt bench.old bench.new }
     ensures finds { Finds task.now.model.now pass.old pass.new meter.old meter.new found.old found.new }
     ensures node { IfOk result (IsLooked task.now.model.now bench.new pass.new.seen) }
+    ensures able { IsAble bench.new }
     ensures none { IfOk result (λ node. IsOpenNode node → FindsNone pass.old pass.new meter.old meter.new found.old found.new) }
     ensures local { SameTasks local.old local.new }
     ensures memory { IfErr result (λ stop. stop ≡ Stop.NoMemory) }

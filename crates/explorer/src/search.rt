@@ -1,5 +1,6 @@
 // The loop of a search.
 ghost use Rattle.std.specs.Prelude.{◌≡◌, IfOk, IfErr};
+ghost use Rattle.explorer.specs.Benches.{IsAble};
 ghost use Rattle.explorer.specs.Turns.{IsGoing};
 ghost use Rattle.explorer.specs.Going.{aim, state, Goes, Ends, CanGo};
 
@@ -29,8 +30,10 @@ fn advance<H: Shelf>(
 ) -> Result<Turn, Stop>
     requires going { IsGoing turn }
     requires can { CanGo (aim task.now) turn (state bench.old pass.old local.old reader.old meter.old found.old) }
+    requires able { IsAble bench.old }
     ensures ok { IfOk result (λ v. Goes (aim task.now) 1 turn (state bench.old pass.old local.old reader.old meter.old found.old) v (state bench.new pass.new local.new reader.new meter.new found.new)) }
     ensures err { IfErr result (λ why. Ends (aim task.now) turn (state bench.old pass.old local.old reader.old meter.old found.old) why (state bench.new pass.new local.new reader.new meter.new found.new)) }
+    ensures able { IsAble bench.new }
 {
     match turn {
         Turn::Down => descend(task, bench, reader, pass, local, found, meter),
@@ -54,8 +57,10 @@ pub(crate) fn search<H: Shelf>(
     meter: &mut Meter,
 ) -> Result<Closed, Stop>
     requires can { CanGo (aim task.now) Turn.Down (state bench.old pass.old local.old reader.old meter.old found.old) }
+    requires able { IsAble bench.old }
     ensures ok { IfOk result (λ closed. Goes (aim task.now) 0 Turn.Down (state bench.old pass.old local.old reader.old meter.old found.old) (Turn.Done closed) (state bench.new pass.new local.new reader.new meter.new found.new)) }
     ensures err { IfErr result (λ why. Ends (aim task.now) Turn.Down (state bench.old pass.old local.old reader.old meter.old found.old) why (state bench.new pass.new local.new reader.new meter.new found.new)) }
+    ensures able { IsAble bench.new }
 {
     let mut turn = Turn::Down;
     'steps: loop {

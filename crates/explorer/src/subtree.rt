@@ -3,7 +3,7 @@
 ghost use Rattle.std.specs.Prelude.{◌≡◌, ◌+◌, ◌^◌, ◌≤◌, ◌<◌, List, ℤ, length, All, IfOk, IfErr};
 ghost use Rattle.fzn_model.specs.Limits.{IsValue};
 ghost use Rattle.fzn_model.specs.Solutions.{top};
-ghost use Rattle.explorer.specs.Benches.{IsBench};
+ghost use Rattle.explorer.specs.Benches.{IsBench, IsAble};
 ghost use Rattle.explorer.specs.Holding.{times_held};
 ghost use Rattle.explorer.specs.Frames.{weight};
 ghost use Rattle.explorer.specs.Walking.{NoneMeets};
@@ -74,7 +74,7 @@ fn close_empty<H: Shelf>(
 }
 
 /// Searches below the path, from the model's domains.
-#[tactic(auto, using(crate::proofs::Exploring::start_can, crate::proofs::Exploring::start_box, crate::proofs::Exploring::done_runs, crate::proofs::Exploring::done_closes, crate::proofs::Exploring::done_levels, crate::proofs::Exploring::ends_runs, crate::proofs::Exploring::ends_stops, crate::proofs::Exploring::ends_levels, crate::proofs::Exploring::moved_runs, crate::proofs::Exploring::moved_closes, crate::proofs::Exploring::moved_stops))]
+#[tactic(auto, using(crate::proofs::Exploring::start_can, crate::proofs::Exploring::start_box, crate::proofs::Exploring::done_runs, crate::proofs::Exploring::done_closes, crate::proofs::Exploring::done_levels, crate::proofs::Exploring::ends_runs, crate::proofs::Exploring::ends_stops, crate::proofs::Exploring::ends_levels, crate::proofs::Exploring::moved_runs, crate::proofs::Exploring::moved_closes, crate::proofs::Exploring::moved_stops, prop_engine::proofs::Ready::ready_same))]
 fn search_below<H: Shelf>(
     task: &Task,
     bench: &mut Bench,
@@ -85,6 +85,7 @@ fn search_below<H: Shelf>(
     meter: &mut Meter,
 ) -> Result<i64, Stop>
     requires start { IsStart task.now.model.now task.now.path.now bench.old }
+    requires able { IsAble bench.old }
     requires path { All (λ d. (d.var < length task.now.model.now.doms) × IsValue d.at) task.now.path.now }
     requires board { pass.old.board ≡ task.now.board.now }
     requires top { task.now.board.now.top ≡ top task.now.model.now }
@@ -97,6 +98,7 @@ fn search_below<H: Shelf>(
     ensures closed { IfOk result (λ b. HasClosed (aim task.now) b (state bench.old pass.old local.old reader.old meter.old found.old) (state bench.new pass.new local.new reader.new meter.new found.new)) }
     ensures stopped { IfErr result (λ why. HasStopped why (state bench.old pass.old local.old reader.old meter.old found.old) (state bench.new pass.new local.new reader.new meter.new found.new)) }
     ensures levels { (area : List (List ℤ)) → HasLevels bench.old area → HasLevels bench.new area }
+    ensures able { IsAble bench.new }
 {
     let model = task.model;
     let _kept = &model.cons;
@@ -179,7 +181,7 @@ fn count_closed(meter: &mut Meter, explored: &Explored)
 ///
 /// `Settled(b)`: no solution of the path costs less than b, which the pass last saw. `Dry`: the board gave no credit. `Told`: it
 /// told that reason to stop. In every case `works` says what was spent and found, the credits are at most one less than
-/// the path's assignments, and the bench is as it was.
+/// the path's assignments, none where it has none, and the bench is as it was.
 ///
 /// It takes memory for each open expansion and its level, for residual problems, and for entries that the shelf keeps.
 #[tactic(auto, using(crate::proofs::Exploring::closes_if, crate::proofs::Exploring::works_all, crate::proofs::Exploring::weighs, crate::proofs::Exploring::counts_by, crate::proofs::Exploring::causes))]

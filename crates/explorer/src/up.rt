@@ -2,6 +2,7 @@
 ghost use Rattle.std.specs.Prelude.{◌≡◌, ◌≤◌, ◌^◌, ◌-ℤ◌, IfOk, IfErr, length};
 ghost use Rattle.fzn_model.specs.Rests.{IsTrueEntry};
 ghost use Rattle.rest_global.specs.Projected.{IsOffset};
+ghost use Rattle.explorer.specs.Benches.{IsAble};
 ghost use Rattle.explorer.specs.Frames.{IsSecond};
 ghost use Rattle.explorer.specs.Opening.{IsStorable};
 ghost use Rattle.explorer.specs.Going.{aim, state, Goes, Ends, CanGo};
@@ -31,8 +32,10 @@ pub(crate) fn climb<H: Shelf>(
     found: &Found,
     meter: &Meter,
 ) -> Turn
-    requires { CanGo (aim task.now) (Turn.Up closed) (state bench.old pass.now local.now reader.now meter.now found.now) }
-    ensures { Goes (aim task.now) 1 (Turn.Up closed) (state bench.old pass.now local.now reader.now meter.now found.now) result (state bench.new pass.now local.now reader.now meter.now found.now) }
+    requires can { CanGo (aim task.now) (Turn.Up closed) (state bench.old pass.now local.now reader.now meter.now found.now) }
+    requires able { IsAble bench.old }
+    ensures goes { Goes (aim task.now) 1 (Turn.Up closed) (state bench.old pass.now local.now reader.now meter.now found.now) result (state bench.new pass.now local.now reader.now meter.now found.now) }
+    ensures able { IsAble bench.new }
 {
     let _ = task;
     let _ = reader;
@@ -61,8 +64,10 @@ fn turn_over<H: Shelf>(
 ) -> Result<Turn, Stop>
     requires can { CanGo (aim task.now) (Turn.Back frame closed.now) (state bench.old pass.now local.now reader.now meter.now found.now) }
     requires first { frame.side ≡ Side.First }
+    requires able { IsAble bench.old }
     ensures ok { IfOk result (λ v. Goes (aim task.now) 1 (Turn.Back frame closed.now) (state bench.old pass.now local.now reader.now meter.now found.now) v (state bench.new pass.now local.now reader.now meter.now found.now)) }
     ensures err { IfErr result (λ why. Ends (aim task.now) (Turn.Back frame closed.now) (state bench.old pass.now local.now reader.now meter.now found.now) why (state bench.new pass.now local.now reader.now meter.now found.now)) }
+    ensures able { IsAble bench.new }
 {
     let _ = task;
     let _ = closed;
@@ -159,9 +164,11 @@ pub(crate) fn turn_back<H: Shelf>(
     found: &Found,
     meter: &Meter,
 ) -> Result<Turn, Stop>
-    requires { CanGo (aim task.now) (Turn.Back frame closed.now) (state bench.old pass.now local.old reader.old meter.now found.now) }
+    requires can { CanGo (aim task.now) (Turn.Back frame closed.now) (state bench.old pass.now local.old reader.old meter.now found.now) }
+    requires able { IsAble bench.old }
     ensures ok { IfOk result (λ v. Goes (aim task.now) 1 (Turn.Back frame closed.now) (state bench.old pass.now local.old reader.old meter.now found.now) v (state bench.new pass.now local.new reader.new meter.now found.now)) }
     ensures err { IfErr result (λ why. Ends (aim task.now) (Turn.Back frame closed.now) (state bench.old pass.now local.old reader.old meter.now found.now) why (state bench.new pass.now local.new reader.new meter.now found.now)) }
+    ensures able { IsAble bench.new }
 {
     match frame.side {
         Side::First => turn_over(

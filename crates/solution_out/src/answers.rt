@@ -67,7 +67,7 @@ fn put_stopped<O: Sink>(out: &mut O, outs: &[Out], values: &[i64], why: Why) -> 
 }
 
 /// Appends the text of an answer.
-fn put_answer<O: Sink>(out: &mut O, model: &Model, answer: &Answer) -> Result<(), Failed>
+pub(crate) fn put_answer<O: Sink>(out: &mut O, model: &Model, answer: &Answer) -> Result<(), Failed>
     requires { AnswerFits (length model.now.doms) answer.now }
     ensures text { Wrote (O.written out.old) (O.written out.new) (shows model.now answer.now) result }
     ensures cause { HasCause (O.faults out.old) (O.faults out.new) result }

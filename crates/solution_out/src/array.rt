@@ -49,7 +49,7 @@ fn put_array_head<O: Sink>(out: &mut O, dims: &[(i64, i64)]) -> Result<(), Faile
     ensures cause { HasCause (O.faults out.old) (O.faults out.new) result }
 {
     put(out, b"array")?;
-    put_count(out, dims.len())?;
+    put_count(out, dims.len() as u64)?;
     put(out, b"d(")?;
     put_ranges(out, dims)
 }

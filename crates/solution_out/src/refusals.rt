@@ -26,7 +26,7 @@ fn put_place<O: Sink>(out: &mut O, line: u32) -> Result<(), Failed>
     ensures cause { HasCause (O.faults out.old) (O.faults out.new) result }
 {
     put(out, b"cachesolve: line ")?;
-    put_count(out, line as usize)
+    put_count(out, line as u64)
 }
 
 /// Appends a word behind a colon.

@@ -1,6 +1,9 @@
 ghost use Rattle.std.specs.Prelude.{IsTrue, All};
 ghost use Rattle.fzn_model.specs.Limits.{IsNear};
 
+// The parts of a search.
+mod parts;
+
 use fzn_model::{Model, cost_of, satisfies};
 use fzn_parser::parse;
 use solver::{Answer, Meter, Options, Outcome, Why, solve};
@@ -176,6 +179,10 @@ fn the_cache_hits(rt: HostRuntime) -> Result<(), Fail> {
         "{plain:?} {cached:?}"
     );
     assert!(rt; matches!(&plain.answer, Answer::Unsat) && matches!(&cached.answer, Answer::Unsat));
+    assert!(rt;
+        plain.stores == 0 && cached.stores > 0 && plain.gone == 0 && cached.gone == 0,
+        "{plain:?} {cached:?}"
+    );
     Ok(())
 }
 

@@ -1,3 +1,3 @@
 mod Offered
 mod Answering
-mod Starting
+pub mod Starting

@@ -1,4 +1,4 @@
-//! The text of answers and of refusals.
+//! The text of answers, of what a search took, and of refusals.
 
 ghost use Rattle.std.specs.Prelude.{IfOk, length};
 ghost use Rattle.incumbent_board.specs.Right.{AnswerFits};
@@ -6,9 +6,9 @@ ghost use Rattle.incumbent_board.specs.Right.{AnswerFits};
 use super::model_of;
 use cs_base::MemSink;
 use fzn_model::{List, Model};
-use incumbent_board::Answer;
 use incumbent_board::Why::{self, Budget, Memory};
-use solution_out::{write_answer, write_refusal};
+use incumbent_board::{Answer, Outcome};
+use solution_out::{write_answer, write_refusal, write_stats, write_sums};
 use std::alloc::{AllocError, Global};
 use std::process::Abort;
 use std::test::Fail;
@@ -110,6 +110,59 @@ fn outputs(rt: HostRuntime) -> Result<(), Fail> {
 #[test]
 fn kinds_of_answer(rt: HostRuntime) -> Result<(), Fail> {
     all_show(&rt, rt.alloc(), &KINDS)
+}
+
+/// Values of the variable of a model that maximises it, what is known, and what is written for the number 007.
+#[rattlefmt::skip]
+static SUMS: [(&[i64], Known, &str); 5] = [
+    (&[7], Best, "make 007\nverdict optimal\noptimum 7\n"),
+    (&[-7], Best, "make 007\nverdict optimal\noptimum -7\n"),
+    (&[7], Stopped(Budget), "make 007\nverdict undecided\n"),
+    (&[7], Unknown(Memory), "make 007\nverdict undecided\n"),
+    (&[7], Unsat, "make 007\nverdict unsatisfiable\n"),
+];
+
+/// What is written for the model made from the number 007, where no write fails.
+fn summed(alloc: Global, model: &Model, values: &[i64], known: Known) -> Result<Vec<u8>, Fail> {
+    if values.len() != model.doms.as_slice().len() {
+        return Err("more or fewer values than variables")?;
+    }
+    let answer = answer_of(alloc, values, known)?;
+    let mut sink = MemSink::new(alloc, 1000, 7, Vec::new(alloc))?;
+    if write_sums(&mut sink, b"007", model, &answer).is_err() {
+        return Err("a write failed")?;
+    }
+    Ok(Vec::from_slice(alloc, sink.bytes())?)
+}
+
+#[test]
+fn sums_of_a_made_model(rt: HostRuntime) -> Result<(), Fail> {
+    let model = model_of(rt.alloc(), "var -9..9: x; solve maximize x;")?;
+    for (values, known, text) in &SUMS {
+        let found = summed(rt.alloc(), &model, values, *known)?;
+        assert_eq!(rt; found.as_slice(), text.as_bytes());
+    }
+    Ok(())
+}
+
+/// What is written for 305 nodes, no hit, as many stores as can be counted, and 12 entries that were gone.
+static STATISTICS: &str =
+    "%%%mzn-stat: nodes=305\n%%%mzn-stat: cacheHits=0\n%%%mzn-stat: cacheStores=18446744073709551615\n%%%mzn-stat: cacheGone=12\n%%%mzn-stat-end\n";
+
+#[test]
+fn statistics_show_each_count(rt: HostRuntime) -> Result<(), Fail> {
+    let mut sink = MemSink::new(rt.alloc(), 1000, 7, Vec::new(rt.alloc()))?;
+    let outcome = Outcome {
+        answer: Answer::Unsat,
+        nodes: 305,
+        hits: 0,
+        stores: u64::MAX,
+        gone: 12,
+    };
+    let is_whole = write_stats(&mut sink, &outcome).is_ok();
+    assert!(rt; is_whole);
+    assert_eq!(rt; sink.bytes(), STATISTICS.as_bytes());
+    Ok(())
 }
 
 /// A line, the name of a code, a token, and what is written for them.

@@ -6,6 +6,7 @@ abbrev pub invariant-loop-limit : goal.invariant-loop-limit
 invariant-loop-limit g l = record {
   taken : Consumes (g.S.Source.left l.fn.source) (g.S.Source.left l.source) l.bytes.items;
   small : length l.bytes.items ≤ l.limit;
+  chosen : g.S.Source.chosen l.source ≡ g.S.Source.chosen l.fn.source;
   faults : g.S.Source.faults l.source ≡ g.S.Source.faults l.fn.source;
 }
 

@@ -6,6 +6,7 @@ use Rattle.explorer.proofs.edge.follow.Goals as goal
 pub loop-decision-init : goal.loop-decision-init
 loop-decision-init c = record {
   saved = refl;
+  settled = refl;
   reached = base_start c.args.task.now.model.now c.args.path.now c.args.store.now.box c.requires.domains c.recall_domains.ensures.domains;
 }
 
@@ -18,6 +19,7 @@ some_stays e = cc
 pub loop-decision-preserved : goal.loop-decision-preserved
 loop-decision-preserved c = record {
   saved = c.cut.ensures.saved ∙ c.loop-decision.invariant.saved;
+  settled = c.cut.ensures.settled ∙ c.loop-decision.invariant.settled;
   reached = base_more c.args.task.now.model.now c.args.path.now c.loop-decision.decision-index _ c.loop-decision.store.box c.cut.new.store.box c.loop-decision-test.true c.loop-decision.invariant.reached (c.cut.ensures.cuts (λ e. some_stays (sym c.in-Done.is ∙ e)));
 }
 

@@ -1,4 +1,5 @@
 use Rattle.std.proofs.Common.{◌≡◌, ◌<◌, ◌+◌, length, List, [], cond, false, ℤ}
+use Rattle.explorer.specs.Benches.{IsAble}
 use Rattle.explorer.specs.Ending.{HasLevels}
 use Rattle.explorer.proofs.edge.leave.Given as goal
 
@@ -8,6 +9,7 @@ invariant-levels l = record {
   last : l.left ≡ false → l.bench.frames ≡ [];
   levels : (area : List (List ℤ)) → HasLevels l.fn.bench area → HasLevels l.bench area;
   plan : l.bench.engine ≡ l.fn.bench.engine;
+  able : IsAble l.bench;
 }
 
 abbrev pub decreases-levels : goal.decreases-levels

@@ -1,10 +1,12 @@
 use Rattle.explorer.specs.Going.{aim, state, Goes, CanGo}
+use Rattle.explorer.specs.Benches.{IsAble}
 use Rattle.explorer.specs.Turns.{turns_left}
 use Rattle.explorer.specs.declared.frame.Turn.TheVariants as turn
 use Rattle.explorer.proofs.search.search.Given as goal
 
 abbrev pub invariant-steps : goal.invariant-steps
 invariant-steps g l = record {
+  able : IsAble l.bench;
   can : CanGo (aim l.task) l.turn (state l.bench l.pass l.local l.reader l.meter l.found);
   goes : Goes (aim l.task) 0 turn.Down (state l.fn.bench l.fn.pass l.fn.local l.fn.reader l.fn.meter l.fn.found) l.turn (state l.bench l.pass l.local l.reader l.meter l.found);
 }

@@ -14,8 +14,8 @@ returns-then-follow-clause-stopped c = λ c'. stops_if (aim c'.args.task.now) c'
 pub returns-then-follow-clause-levels : goal.returns-then-follow-clause-levels
 returns-then-follow-clause-levels c = λ c' area lv. levels_same c'.args.bench.now (record { store = c'.follow.new.store; engine = c'.args.bench.now.engine; here = c'.args.bench.now.here; frames = c'.args.bench.now.frames; values = c'.args.bench.now.values }) area refl c'.follow.ensures.saved lv
 
-pub search-requires : goal.search-requires
-search-requires c = λ c'. record { can = start_can c'.args.task.now c'.args.bench.now (record { store = c'.follow.new.store; engine = c'.args.bench.now.engine; here = c'.args.bench.now.here; frames = c'.args.bench.now.frames; values = c'.args.bench.now.values }) c'.args.pass.now c'.args.local.now c'.args.reader.now c'.args.meter.now c'.args.found.now c'.requires.start refl refl refl c'.follow.ensures.saved (subst (λ (q : List Decision). IsBase c'.args.task.now.model.now q c'.follow.new.store.box) c'.decisions.ensures (c'.follow.ensures.base c'.if-follow.false)) (subst IsModel c'.model.view_is c'.model.invariant) c'.out.ensures.kept c'.requires.board c'.requires.top c'.requires.cache c'.requires.held c'.requires.expands c'.requires.found c'.requires.meter }
+pub search-requires-clause-can : goal.search-requires-clause-can
+search-requires-clause-can c = λ c'. start_can c'.args.task.now c'.args.bench.now (record { store = c'.follow.new.store; engine = c'.args.bench.now.engine; here = c'.args.bench.now.here; frames = c'.args.bench.now.frames; values = c'.args.bench.now.values }) c'.args.pass.now c'.args.local.now c'.args.reader.now c'.args.meter.now c'.args.found.now c'.requires.start refl refl refl c'.follow.ensures.saved (subst (λ (q : List Decision). IsBase c'.args.task.now.model.now q c'.follow.new.store.box) c'.decisions.ensures (c'.follow.ensures.base c'.if-follow.false)) (subst IsModel c'.model.view_is c'.model.invariant) c'.out.ensures.kept c'.requires.board c'.requires.top c'.requires.cache c'.requires.held c'.requires.expands c'.requires.found c'.requires.meter
 
 pub returns-in-Ok-clause-ran : goal.returns-in-Ok-clause-ran
 returns-in-Ok-clause-ran c = λ c'. done_runs c'.args.task.now c'.args.bench.now (record { store = c'.follow.new.store; engine = c'.args.bench.now.engine; here = c'.args.bench.now.here; frames = c'.args.bench.now.frames; values = c'.args.bench.now.values }) c'.args.pass.now c'.args.local.now c'.args.reader.now c'.args.meter.now c'.args.found.now c'.requires.start refl refl refl c'.follow.ensures.saved (subst (λ (q : List Decision). IsBase c'.args.task.now.model.now q c'.follow.new.store.box) c'.decisions.ensures (c'.follow.ensures.base c'.if-follow.false)) (subst IsModel c'.model.view_is c'.model.invariant) c'.out.ensures.kept c'.requires.board c'.requires.top c'.requires.cache c'.requires.held c'.requires.expands c'.requires.found c'.requires.meter c'.search.new.bench c'.search.new.pass c'.search.new.local c'.search.new.reader c'.search.new.meter c'.search.new.found c'.in-Ok.closed c'.in-Ok.ensures.ok

@@ -5,6 +5,7 @@ use Rattle.evictor.specs.Places.{places_of}
 use Rattle.evictor.specs.Reports.{AreReports, IsScan}
 use Rattle.evictor.specs.Looks.{IsLook}
 use Rattle.evictor.proofs.Scans.{hits}
+use Rattle.evictor.proofs.Standings.{look_stands, inside_of}
 use Rattle.evictor.proofs.cache.Cache.lookup.Goals as goal
 
 pub returns-then-self-eq0-clause-look : goal.returns-then-self-eq0-clause-look
@@ -43,3 +44,20 @@ returns-in-Unserved-clause-look g c =
       places = λ _. are;
       no_words = λ none. absurd (some none);
     }
+
+pub returns-then-self-eq0-clause-stands : goal.returns-then-self-eq0-clause-stands
+returns-then-self-eq0-clause-stands g c =
+    let none : c.args.reader.now.pass.cache.ways ≡ 0 = search rules in
+    look_stands c.args.rest.now c.args.need _ c.args.reader.now _ (λ some. absurd (some none)) (returns-then-self-eq0-clause-look g c)
+
+pub returns-in-Served-clause-stands : goal.returns-in-Served-clause-stands
+returns-in-Served-clause-stands g c =
+    let are : c.places_of-places.result ≡ places_of c.args.reader.now.pass.cache.ways c.args.rest.now = search rules in
+    let own : c.args.reader.now.pass.cache.ways ≡ c.self.inside.ways = search rules in
+    look_stands c.args.rest.now c.args.need _ c.args.reader.now _ (λ _. inside_of _ _ _ _ own are c.places_of-places.ensures.below) (returns-in-Served-clause-look g c)
+
+pub returns-in-Unserved-clause-stands : goal.returns-in-Unserved-clause-stands
+returns-in-Unserved-clause-stands g c =
+    let are : c.places_of-places.result ≡ places_of c.args.reader.now.pass.cache.ways c.args.rest.now = search rules in
+    let own : c.args.reader.now.pass.cache.ways ≡ c.self.inside.ways = search rules in
+    look_stands c.args.rest.now c.args.need _ c.args.reader.now _ (λ _. inside_of _ _ _ _ own are c.places_of-places.ensures.below) (returns-in-Unserved-clause-look g c)

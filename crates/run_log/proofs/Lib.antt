@@ -1,0 +1,10 @@
+pub mod Appending
+pub mod Buffering
+pub mod Journaling
+pub mod Lines
+pub mod Parts
+pub mod NumberTexts
+pub mod NumberLists
+pub mod EntryTexts
+pub mod ReadParts
+pub mod LogTexts

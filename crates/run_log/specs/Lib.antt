@@ -1,0 +1,5 @@
+pub mod Texts
+pub mod Journals
+pub mod Buffers
+pub mod Readings
+pub mod Steps
