@@ -1,7 +1,7 @@
-% How few bins hold n things? Decisions: the bin of each thing, the largest first.
+% How few bins hold n things, of which no three fit in one? Decisions: the bin of each thing, the largest first.
 int: n;
 int: room = 50;
-array[1..n] of int: size = reverse(sort([7 + (i * i * 13 + i * 5) mod 27 | i in 1..n]));
+array[1..n] of int: size = reverse(sort([17 + (i * i * 5 + i * 2) mod 8 | i in 1..n]));
 
 array[1..n] of var 1..n: bin;
 var 1..n: bins;

@@ -2,7 +2,8 @@
 int: n;
 set of int: around = 0..n + 3;
 array[around, around] of var 0..1: cell;
-var 0..n * n: living = sum(i in 2..n + 1, j in 2..n + 1) (cell[i, j]);
+var 0..n * n: living;
+constraint living = sum(i in 2..n + 1, j in 2..n + 1) (cell[i, j]);
 constraint forall(i in around, j in around where i < 2 \/ j < 2 \/ i > n + 1 \/ j > n + 1) (cell[i, j] = 0);
 constraint forall(i in 1..n + 2, j in 1..n + 2) (
   let {

@@ -2,7 +2,7 @@
 % In which order are the products made so that few stacks are open at once? Decisions: the product of each time.
 include "all_different.mzn";
 int: n;
-array[1..n, 1..n] of 0..1: ordered = array2d(1..n, 1..n, [bool2int((c * c + 3 * p * c + 7 * p) mod 5 < 2) | c in 1..n, p in 1..n]);
+array[1..n, 1..n] of 0..1: ordered = array2d(1..n, 1..n, [bool2int((c * 5 + p * p * 3 + c * p * c) mod 7 < 2) | c in 1..n, p in 1..n]);
 
 array[1..n] of var 1..n: made;
 array[1..n, 0..n] of var 0..n: done;

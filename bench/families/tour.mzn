@@ -5,7 +5,8 @@ array[1..n, 1..n] of int: way = array2d(1..n, 1..n, [if i = j then 0 else 10 + (
 
 array[0..n] of var 1..n: town;
 array[1..n] of var 0..70: leg;
-var 0..70 * n: total = sum(leg);
+var 0..70 * n: total;
+constraint total = sum(leg);
 constraint town[0] = 1 /\ town[n] = 1 /\ all_different([town[t] | t in 1..n]);
 constraint forall(t in 1..n) (leg[t] = [way[i, j] | i, j in 1..n][(town[t - 1] - 1) * n + town[t]]);
 
