@@ -12,7 +12,6 @@ use Rattle.fzn_reader.specs.declared.code.Code.{Code}
 use Rattle.fzn_reader.specs.declared.refused.Refused.{Refused}
 use Rattle.fzn_reader.specs.Refusals.{◌>>=◌, refuse, value_or, is_kind, is_spelled, mark_at, word_at, name_at, most}
 use Rattle.fzn_parser.specs.Grammar.{Token, ◌·◌, is_token, Mark, Keyword, Name}
-use Rattle.fzn_parser.specs.Laws.{is_form}
 use Rattle.fzn_parser.proofs.Lawful.{both, TakesTokens, takes_spelled, takes_name, after, here}
 
 -- The rule spells what stands before the rest, fewer tokens than any file has.
@@ -25,44 +24,44 @@ pub record Spelled (Rule : List Spot → Type 0) (ts rest : List Spot) : Type 0 
 pub at_front : {X : List Spot → Type 0} {ts rest : List Spot} (front : List Spot) → ts ≡ front ++ rest → length front < most → X front → Spelled X ts rest
 at_front front e n p = record { front = front; spelled = p; joined = e; few = n }
 
--- What is read ends at the rest; a refusal does not speak of the form.
-pub record IsFormed {A : Type 0} (behind : A → List Spot) (rest : List Spot) (read : Result A Refused) : Type 0 where
+-- What is read ends at the rest; a refusal has none of these codes.
+pub record IsFormed {A : Type 0} (bad : Code → Bool) (behind : A → List Spot) (rest : List Spot) (read : Result A Refused) : Type 0 where
   pub ends : (x : A) → read ≡ Ok x → behind x ≡ rest
-  pub other : (r : Refused) → read ≡ Err r → is_form r.code ≡ false
+  pub other : (r : Refused) → read ≡ Err r → bad r.code ≡ false
 
-pub ok_formed : {A : Type 0} {v : A → List Spot} {rest : List Spot} (x : A) → v x ≡ rest → IsFormed v rest (Ok x)
+pub ok_formed : {bad : Code → Bool} {A : Type 0} {v : A → List Spot} {rest : List Spot} (x : A) → v x ≡ rest → IsFormed bad v rest (Ok x)
 ok_formed {v = v} x e = record { ends = λ y f. (let s : x ≡ y = cc in ap v (sym s) ∙ e); other = λ r f. absurd (cc) }
 
-pub err_formed : {A : Type 0} {v : A → List Spot} {rest : List Spot} (r : Refused) → is_form r.code ≡ false → IsFormed {A = A} v rest (Err r)
-err_formed r e = record { ends = λ y f. absurd (cc); other = λ q f. (let s : q ≡ r = cc in ap (λ (x : Refused). is_form x.code) s ∙ e) }
+pub err_formed : {bad : Code → Bool} {A : Type 0} {v : A → List Spot} {rest : List Spot} (r : Refused) → bad r.code ≡ false → IsFormed {A = A} bad v rest (Err r)
+err_formed {bad = bad} r e = record { ends = λ y f. absurd (cc); other = λ q f. (let s : q ≡ r = cc in ap (λ (x : Refused). bad x.code) s ∙ e) }
 
--- a refusal that does not speak of the form
-pub other_code : {A : Type 0} {v : A → List Spot} {rest : List Spot} (c : Code) (ts : List Spot) → is_form c ≡ false → IsFormed {A = A} v rest (refuse c ts)
+-- a refusal with another code
+pub other_code : {bad : Code → Bool} {A : Type 0} {v : A → List Spot} {rest : List Spot} (c : Code) (ts : List Spot) → bad c ≡ false → IsFormed {A = A} bad v rest (refuse c ts)
 other_code c ts e = err_formed _ e
 
 -- what the first token stands for
-pub value_formed : {A : Type 0} (c : Code) (o : Option A) (ts rest : List Spot) → is_form c ≡ false → after_first ts ≡ rest → IsFormed {A = A × List Spot} after rest (value_or c o ts)
+pub value_formed : {bad : Code → Bool} {A : Type 0} (c : Code) (o : Option A) (ts rest : List Spot) → bad c ≡ false → after_first ts ≡ rest → IsFormed {A = A × List Spot} bad after rest (value_or c o ts)
 value_formed c None ts rest f e = other_code c ts f
 value_formed c (Some x) ts rest f e = ok_formed _ e
 
 -- one read behind the other
-pub bind : {A B : Type 0} {v : A → List Spot} {w : B → List Spot} {mid rest : List Spot} {read : Result A Refused} {f : A → Result B Refused} → IsFormed v mid read → ((x : A) → v x ≡ mid → IsFormed w rest (f x)) → IsFormed w rest (read >>= f)
+pub bind : {bad : Code → Bool} {A B : Type 0} {v : A → List Spot} {w : B → List Spot} {mid rest : List Spot} {read : Result A Refused} {f : A → Result B Refused} → IsFormed bad v mid read → ((x : A) → v x ≡ mid → IsFormed bad w rest (f x)) → IsFormed bad w rest (read >>= f)
 bind {read = Ok x} p h = h x (p.ends x refl)
 bind {read = Err r} p h = err_formed r (p.other r refl)
 
 -- what is read is made into another value
-pub made : {A B : Type 0} {v : A → List Spot} {w : B → List Spot} {rest : List Spot} {read : Result A Refused} (g : A → B) → IsFormed v rest read → ((x : A) → w (g x) ≡ v x) → IsFormed w rest (read >>= λ x. Ok (g x))
+pub made : {bad : Code → Bool} {A B : Type 0} {v : A → List Spot} {w : B → List Spot} {rest : List Spot} {read : Result A Refused} (g : A → B) → IsFormed bad v rest read → ((x : A) → w (g x) ≡ v x) → IsFormed bad w rest (read >>= λ x. Ok (g x))
 made g p h = bind p (λ x e. ok_formed _ (h x ∙ e))
 
-pub chosen : {A : Type 0} {v : A → List Spot} {rest : List Spot} {x : Result A Refused} (b : Bool) (y : Result A Refused) → b ≡ true → IsFormed v rest x → IsFormed v rest (cond b x y)
+pub chosen : {bad : Code → Bool} {A : Type 0} {v : A → List Spot} {rest : List Spot} {x : Result A Refused} (b : Bool) (y : Result A Refused) → b ≡ true → IsFormed bad v rest x → IsFormed bad v rest (cond b x y)
 chosen true y h p = p
 chosen false y h p = absurd (cc)
 
-pub passed : {A : Type 0} {v : A → List Spot} {rest : List Spot} {y : Result A Refused} (b : Bool) (x : Result A Refused) → b ≡ false → IsFormed v rest y → IsFormed v rest (cond b x y)
+pub passed : {bad : Code → Bool} {A : Type 0} {v : A → List Spot} {rest : List Spot} {y : Result A Refused} (b : Bool) (x : Result A Refused) → b ≡ false → IsFormed bad v rest y → IsFormed bad v rest (cond b x y)
 passed true x h p = absurd (cc)
 passed false x h p = p
 
-pub either : {A : Type 0} {v : A → List Spot} {rest : List Spot} {x y : Result A Refused} (b : Bool) → (b ≡ true → IsFormed v rest x) → (b ≡ false → IsFormed v rest y) → IsFormed v rest (cond b x y)
+pub either : {bad : Code → Bool} {A : Type 0} {v : A → List Spot} {rest : List Spot} {x y : Result A Refused} (b : Bool) → (b ≡ true → IsFormed bad v rest x) → (b ≡ false → IsFormed bad v rest y) → IsFormed bad v rest (cond b x y)
 either true p q = p refl
 either false p q = q refl
 
@@ -83,11 +82,11 @@ split {X} {Y} {ts} {rest} p =
       second = record { front = q.back; spelled = q.second; joined = refl; few = omega arith };
     }
 
-pub seq : {A B : Type 0} {X Y : List Spot → Type 0} {v : A → List Spot} {w : B → List Spot} {ts rest : List Spot} {read : Result A Refused} {f : A → Result B Refused}
-    → Spelled (X · Y) ts rest → ((mid : List Spot) → Spelled X ts mid → Spelled Y mid rest → IsFormed v mid read) → ((x : A) → Spelled Y (v x) rest → IsFormed w rest (f x)) → IsFormed w rest (read >>= f)
+pub seq : {bad : Code → Bool} {A B : Type 0} {X Y : List Spot → Type 0} {v : A → List Spot} {w : B → List Spot} {ts rest : List Spot} {read : Result A Refused} {f : A → Result B Refused}
+    → Spelled (X · Y) ts rest → ((mid : List Spot) → Spelled X ts mid → Spelled Y mid rest → IsFormed bad v mid read) → ((x : A) → Spelled Y (v x) rest → IsFormed bad w rest (f x)) → IsFormed bad w rest (read >>= f)
 seq {Y = Y} {rest = rest} p g h = let m = split p in bind (g m.mid m.first m.second) (λ x e. h x (subst (λ (us : List Spot). Spelled Y us rest) (sym e) m.second))
 
-stays_by : (k : Seen) (s : Spot) (ss : List Spot) → is_token k ≡ true → rest_by k s ss ≡ ss
+pub stays_by : (k : Seen) (s : Spot) (ss : List Spot) → is_token k ≡ true → rest_by k s ss ≡ ss
 stays_by (Known k) s ss h = refl
 stays_by End s ss h = absurd (cc)
 stays_by Bad s ss h = absurd (cc)
@@ -103,18 +102,18 @@ taken {test} {ts} {rest} t p =
     let e : ts ≡ q.spot ∷ rest = p.joined ∙ ap (λ (us : List Spot). us ++ rest) q.only in
     record { passes = ap (λ (us : List Spot). test (first us)) e ∙ q.passes; behind = ap after_first e ∙ stays_by q.spot.seen q.spot rest (t q.spot q.passes) }
 
-pub token_formed : {A : Type 0} {v : A → List Spot} {test : Spot → Bool} {ts rest : List Spot} → TakesTokens test → Spelled (Token test) ts rest → (x : A) (y : Result A Refused) → v x ≡ after_first ts → IsFormed v rest (cond (test (first ts)) (Ok x) y)
+pub token_formed : {bad : Code → Bool} {A : Type 0} {v : A → List Spot} {test : Spot → Bool} {ts rest : List Spot} → TakesTokens test → Spelled (Token test) ts rest → (x : A) (y : Result A Refused) → v x ≡ after_first ts → IsFormed bad v rest (cond (test (first ts)) (Ok x) y)
 token_formed {test = test} {ts = ts} t p x y e = let q = taken t p in chosen (test (first ts)) y q.passes (ok_formed x (e ∙ q.behind))
 
-pub mark_formed : (text : List ℕ) (ts rest : List Spot) → Spelled (Mark text) ts rest → IsFormed here rest (mark_at text ts)
+pub mark_formed : {bad : Code → Bool} (text : List ℕ) (ts rest : List Spot) → Spelled (Mark text) ts rest → IsFormed bad here rest (mark_at text ts)
 unfolding mark_at
 mark_formed text ts rest p = token_formed (takes_spelled kind.Mark text) p _ _ refl
 
-pub word_formed : (text : List ℕ) (ts rest : List Spot) → Spelled (Keyword text) ts rest → IsFormed here rest (word_at text ts)
+pub word_formed : {bad : Code → Bool} (text : List ℕ) (ts rest : List Spot) → Spelled (Keyword text) ts rest → IsFormed bad here rest (word_at text ts)
 unfolding word_at
 word_formed text ts rest p = token_formed (takes_spelled kind.Word text) p _ _ refl
 
-pub name_formed : (ts rest : List Spot) → Spelled Name ts rest → IsFormed after rest (name_at ts)
+pub name_formed : {bad : Code → Bool} (ts rest : List Spot) → Spelled Name ts rest → IsFormed bad after rest (name_at ts)
 unfolding name_at
 name_formed ts rest p = token_formed takes_name p _ _ refl
 

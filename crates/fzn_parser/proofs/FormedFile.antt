@@ -34,15 +34,15 @@ use Rattle.fzn_parser.proofs.FormedDecls.{worded, no_word, partype_first, partyp
 use Rattle.fzn_parser.proofs.FormedArrays.{array_formed}
 use Rattle.fzn_parser.proofs.FormedCalls.{constraint_formed, solve_formed}
 
-token_by_formed : (k : Seen) (ts rest : List Spot) → is_token k ≡ true → after_first ts ≡ rest → IsFormed here rest (token_by k ts)
+token_by_formed : (k : Seen) (ts rest : List Spot) → is_token k ≡ true → after_first ts ≡ rest → IsFormed is_form here rest (token_by k ts)
 token_by_formed (Known k) ts rest t e = ok_formed _ e
 token_by_formed End ts rest t e = absurd (cc)
 token_by_formed Bad ts rest t e = absurd (cc)
 
-token_formed : (u : Unit {0}) (ts rest : List Spot) → Spelled (Token inside) ts rest → IsFormed after rest (passing token_at u ts)
+token_formed : (u : Unit {0}) (ts rest : List Spot) → Spelled (Token inside) ts rest → IsFormed is_form after rest (passing token_at u ts)
 token_formed u ts rest p = let q = taken takes_inside p in made (λ us. (tt, us)) (token_by_formed (first ts).seen ts rest (both _ _ q.passes).0 q.behind) (λ x. refl)
 
-predicate_formed : (ts rest : List Spot) → Spelled Predicate ts rest → is_mark (codes ";") rest ≡ true → IsFormed after rest (predicate_at ts)
+predicate_formed : (ts rest : List Spot) → Spelled Predicate ts rest → is_mark (codes ";") rest ≡ true → IsFormed is_form after rest (predicate_at ts)
 unfolding predicate_at Predicate
 predicate_formed ts rest p h = seq (behind_token (takes_spelled kind.Word (codes "predicate")) p) (λ mid a b. name_formed _ mid a) (λ name q. seq q (λ mid a b. mark_formed _ name.1 mid a) (λ start q.
     repeat_formed ends_item (passing token_at) token_some rest (λ u. h) (λ u us m r. not_true _ (both _ _ (taken takes_inside r).passes).1) (λ u us m r s. token_formed u us m r) tt start q))
@@ -73,7 +73,7 @@ parameter_type ts rest p = let m = split p in (m.mid, m.first)
 
 -- by the word that stands first
 module _ (d : Stated) (ts rest front : List Spot) (e : ts ≡ front ++ rest) (k : length front < most) (h : is_mark (codes ";") rest ≡ true) where
-  item_by : (Predicate ∣ Parameter ∣ Variable ∣ Array ∣ Constraint ∣ Solve) front → IsFormed after rest (item_at d ts)
+  item_by : (Predicate ∣ Parameter ∣ Variable ∣ Array ∣ Constraint ∣ Solve) front → IsFormed is_form after rest (item_at d ts)
   unfolding item_at
   item_by (inl a) = let p = at_front front e k a in chosen (is_word (codes "predicate") ts) _ (predicate_word ts rest p) (made (λ x. (d, x.1)) (predicate_formed ts rest p h) (λ x. refl))
   item_by (inr (inl a)) =
@@ -110,15 +110,15 @@ module _ (d : Stated) (ts rest front : List Spot) (e : ts ≡ front ++ rest) (k 
   word_by (inr (inr (inr (inr (inl a))))) = (both _ _ (constraint_word ts rest (at_front front e k a))).0
   word_by (inr (inr (inr (inr (inr a))))) = (both _ _ (solve_word ts rest (at_front front e k a))).0
 
-item_formed : (d : Stated) (ts rest : List Spot) → Spelled Item ts rest → is_mark (codes ";") rest ≡ true → IsFormed after rest (item_at d ts)
+item_formed : (d : Stated) (ts rest : List Spot) → Spelled Item ts rest → is_mark (codes ";") rest ≡ true → IsFormed is_form after rest (item_at d ts)
 unfolding Item
 item_formed d ts rest p h = item_by d ts rest p.front p.joined p.few h p.spelled
 
-one_item_formed : (d : Stated) (ts rest : List Spot) → Spelled (Item · Mark (codes ";")) ts rest → IsFormed after rest (one_item d ts)
+one_item_formed : (d : Stated) (ts rest : List Spot) → Spelled (Item · Mark (codes ";")) ts rest → IsFormed is_form after rest (one_item d ts)
 unfolding one_item
 one_item_formed d ts rest p = seq p (λ mid a b. item_formed d ts mid a (taken (takes_spelled kind.Mark (codes ";")) b).passes) (λ item q. made (λ us. (item.0, us)) (mark_formed _ item.1 rest q) (λ x. refl))
 
-item_some : (us : List Spot) → (Item · Mark (codes ";")) us → 0 < length us
+pub item_some : (us : List Spot) → (Item · Mark (codes ";")) us → 0 < length us
 item_some us p = let n : length us ≡ length p.front + length p.back = ap length p.joined ∙ length-append p.front p.back in let k : 0 < length p.back = token_some p.back p.second in omega arith
 
 word_goes : (k : Seen) → is_kind kind.Word k ≡ true → is_end_by k ≡ false
@@ -128,7 +128,7 @@ item_goes : (ts rest : List Spot) → Spelled (Item · Mark (codes ";")) ts rest
 unfolding Item
 item_goes ts rest p = let m = split p in word_goes (first ts).seen (word_by nothing ts m.mid m.first.front m.first.joined m.first.few (taken (takes_spelled kind.Mark (codes ";")) m.second).passes m.first.spelled)
 
-items_formed : (ts rest : List Spot) → Spelled File ts rest → is_end_by (first rest).seen ≡ true → IsFormed after rest (items_at ts)
+items_formed : (ts rest : List Spot) → Spelled File ts rest → is_end_by (first rest).seen ≡ true → IsFormed is_form after rest (items_at ts)
 unfolding items_at File
 items_formed ts rest p h = repeat_formed is_end one_item item_some rest (λ d. h) (λ d us m q. item_goes us m q) (λ d us m q r. one_item_formed d us m q) nothing ts p
 
@@ -141,7 +141,7 @@ token_length : (t : Option (Kind × ℕ)) (more : Kind × ℕ → List Spot) (li
 token_length None more line at n p h = omega arith
 token_length (Some t) more line at n p h = h t
 
-spots_length : (skip line at : ℕ) (bs : List ℕ) → length (spots_from skip line at bs) ≤ length bs + 1
+pub spots_length : (skip line at : ℕ) (bs : List ℕ) → length (spots_from skip line at bs) ≤ length bs + 1
 unfolding spots_from
 spots_length zero line at [] = omega arith
 spots_length (suc skip) line at [] = omega arith
@@ -158,7 +158,7 @@ spelled_file bytes h s =
     let m : length (spots_of bytes) ≡ length s.tokens + 1 = ap length s.all ∙ length-append s.tokens (s.end ∷ []) in
     record { front = s.tokens; spelled = s.file; joined = s.all; few = omega arith }
 
-model_formed : (d : Stated) (g : Option Goal) (ts rest : List Spot) → IsFormed (λ m. rest) rest (model_by d g ts)
+model_formed : (d : Stated) (g : Option Goal) (ts rest : List Spot) → IsFormed is_form (λ m. rest) rest (model_by d g ts)
 model_formed d None ts rest = other_code code.NoSolve ts refl
 model_formed d (Some g) ts rest = ok_formed _ refl
 

@@ -1,3 +1,4 @@
+pub mod Samples
 pub mod Lawful
 pub mod ListLaws
 pub mod BeginLaws
@@ -16,3 +17,13 @@ pub mod FormedDecls
 pub mod FormedArrays
 pub mod FormedCalls
 pub mod FormedFile
+pub mod Made
+pub mod MadeLists
+pub mod MadeExprs
+pub mod MadeTerms
+pub mod MadeAnns
+pub mod MadeItems
+pub mod MadeArrays
+pub mod MadeCalls
+pub mod MadeFile
+pub mod Examples

@@ -1,2 +1,5 @@
 pub mod Grammar
+pub mod Rules
+pub mod States
 pub mod Laws
+pub mod Examples
