@@ -35,7 +35,7 @@ to_high box k rule.Max at place apart = omega (arith, ints)
 to_high box k rule.Split at place apart = omega (arith, ints)
 
 -- the least values are an assignment, and so are the greatest
-lows_in : (box : List (List ℤ)) → IsBox box → InBox box (map low_value box)
+pub lows_in : (box : List (List ℤ)) → IsBox box → InBox box (map low_value box)
 lows_in box well_formed = record {
   count = length-map box low_value;
   each = λ k h. subst (Contains (domain_at box k)) (sym (get_or-map low_value box k [] (pos 0) h)) (low_in (domain_at box k) (well_formed k [] h));

@@ -1,6 +1,6 @@
 -- Leaves: where each variable has one value.
 use Rattle.std.proofs.Common.{◌≡◌, ℕ, zero, suc, ◌+◌, ◌<◌, ◌≤◌, Bool, true, false, List, [], ◌∷◌, ◌++◌, length, take, refl, sym, ap, subst, ◌∙◌, arith, ℤ, pos, negsuc, ◌≤ℤ◌, ◌<ℤ◌, neg_ℤ}
-use Rattle.std.specs.Prelude.{slice_index_or, All, map, not, Some}
+use Rattle.std.specs.Prelude.{slice_index_or, All, map, not, None, Some}
 use Rattle.std.specs.Int.{int_min}
 use Rattle.std.proofs.lemmas.Int.{ints, by_lt_z, clamps}
 use Rattle.std.proofs.lemmas.List.{same_lists, get_or_default, length-map, get_or-map, take_more, take_all, map-append}
@@ -19,13 +19,19 @@ use Rattle.fzn_model.proofs.Terms.{fixed_val}
 use Rattle.brancher.specs.Branching.{AllFixed, HasSides}
 use Rattle.brancher.specs.declared.cut.Cut.{Cut}
 use Rattle.brancher.proofs.Values.{value_between}
+use Rattle.brancher.proofs.Places.{lows_in}
 use Rattle.incumbent_board.specs.Passes.{Held}
 use Rattle.search_core.specs.declared.decision.Decision.{Decision}
-use Rattle.search_core.specs.Paths.{Settled, opposite}
+use Rattle.search_core.specs.Paths.{Meets, Settled, opposite}
+use Rattle.run_log.specs.Journals.{Noted, Notes}
+use Rattle.run_log.proofs.Appending.{notes_none}
 use Rattle.explorer.specs.Nodes.{IsNode}
+use Rattle.explorer.specs.Trees.{solution_lines}
+use Rattle.explorer.specs.RightLogs.{least_after}
+use Rattle.explorer.specs.Recording.{known_in}
 use Rattle.explorer.specs.Offers.{Kept, IsOffer, lesser_of, with_cheaper, least_with, known_after, kept_after}
 use Rattle.explorer.specs.Frames.{HasSide, HasBoth}
-use Rattle.explorer.specs.Looking.{Finds, AreLeast, IsOnly, IsLooked}
+use Rattle.explorer.specs.Looking.{Finds, NotesFound, AreLeast, IsOnly, IsLooked}
 use Rattle.explorer.specs.declared.bench.Bench.{Bench}
 use Rattle.explorer.specs.declared.node.Node.TheVariants as node
 use Rattle.explorer.specs.declared.meter.Meter.{Meter}
@@ -197,3 +203,24 @@ closed_looked m t b z settled is = (settled, is)
 pub open_looked : (m : Parts) (t : Bench) (b : ℤ) (d : Decision) → IsNode m t.here t.store.box b → HasBoth t.store.box d → IsLooked m t b (node.Open d)
 unfolding IsLooked
 open_looked m t b d n both = (n, both)
+
+-- ---- what is noted of a leaf
+pub values_meet : (m : Parts) (p : List Decision) (box : List (List ℤ)) (φ : List ℤ) (b : ℤ) → IsNode m p box b → AreLeast box φ → Meets p φ
+unfolding AreLeast
+values_meet m p box φ b here least = here.lies φ (rw least (lows_in box here.domains))
+
+pub noted_none : (m : Parts) (p : List Decision) (x : Held) (a : Meter) (j : Noted) → NotesFound m p x x a a j j
+unfolding least_after known_in
+noted_none m p x a j = record { solution = None; found = tt; notes = notes_none j; least = refl; seen = refl; known = refl }
+
+pub noted_one : (m : Parts) (p : List Decision) (x y : Held) (a b : Meter) (j k : Noted) (φ : List ℤ) (c z w v : ℤ) → z ≡ c → w ≡ c → v ≡ c → Solves m φ → Meets p φ → c ≡ cost m φ
+    → y ≡ record x { least = int_min x.least z; seen = int_min x.seen z } → b ≡ record a { least = lesser_of a.least (Some w) } → Notes j k (solution_lines (Some (v, φ))) → NotesFound m p x y a b j k
+unfolding least_after known_in
+noted_one m p x y a b j k φ c z w v one two three solves meets costs pass meter told = rw (pass, meter, one, two) (record {
+  solution = Some (c, φ);
+  found = record { solves = solves; meets = meets; costs = costs };
+  notes = subst (λ (q : ℤ). Notes j k (solution_lines (Some (q, φ)))) three told;
+  least = refl;
+  seen = refl;
+  known = refl;
+})

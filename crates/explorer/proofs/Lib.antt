@@ -5,6 +5,12 @@ mod Working
 mod Sides
 mod Frames
 mod Going
+pub mod Books
+mod Recording
+mod Propagated
+mod Told
+mod Logging
+mod Closing
 mod Logs
 mod Opening
 mod Visiting

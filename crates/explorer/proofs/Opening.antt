@@ -279,7 +279,7 @@ module _ (m : Parts) (p : List Decision) (box : List (List ℤ)) (seen : ℤ) (l
     miss = subst (λ (v : RestParts). IsMiss v (seen -ℤ w.offset) missed r s) (sym looked.named) (subst (λ (z : ℤ). IsMiss w.rest z missed r s) e looked);
   }
 
-  hit_closes : (need bound : ℤ) (place : ℕ) (r s : ReaderParts) → IsNode m p box seen → need ≡ seen -ℤ w.offset → IsLookedUp w.rest need (look.Hit bound place) r s → Settled m p seen
+  pub hit_closes : (need bound : ℤ) (place : ℕ) (r s : ReaderParts) → IsNode m p box seen → need ≡ seen -ℤ w.offset → IsLookedUp w.rest need (look.Hit bound place) r s → Settled m p seen
   unfolding IsLookedUp IsLook IsServed IsReading
   hit_closes need bound place r s node e looked =
       let (e0, read, says) = looked.finds.serves.1 in

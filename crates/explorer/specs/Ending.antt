@@ -7,7 +7,9 @@ use Rattle.search_core.specs.declared.decision.Decision.{Decision}
 use Rattle.explorer.specs.Works.{IsCause, Counted, CountedAt}
 use Rattle.explorer.specs.Frames.{Levels, weight}
 use Rattle.explorer.specs.Explored.{Closes}
+use Rattle.run_log.specs.Journals.{Noted}
 use Rattle.explorer.specs.Going.{Aim, State, Working}
+use Rattle.explorer.specs.Logged.{Logged}
 use Rattle.explorer.specs.declared.bench.Bench.{Bench}
 use Rattle.explorer.specs.declared.frame.Stop.{Stop}
 use Rattle.explorer.specs.declared.frame.Stop.TheVariants as stop
@@ -58,3 +60,7 @@ answer_of (Ok b) = explored.Settled b
 answer_of (Err stop.Dry) = explored.Dry
 answer_of (Err (stop.Told why)) = explored.Told why
 answer_of (Err stop.NoMemory) = explored.NoMemory
+
+-- what it notes
+unfoldable pub HasLogged : Aim → Result ℤ Stop → State → Noted → State → Noted → Type 0
+HasLogged a ended s j z k = Logged a.model a.path a.limit (answer_of ended) s.pass z.pass s.reader z.reader s.meter z.meter j k

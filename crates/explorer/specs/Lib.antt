@@ -14,4 +14,7 @@ pub mod Walking
 pub mod Opening
 pub mod Turns
 pub mod Going
+pub mod Books
+pub mod Recording
+pub mod Logged
 pub mod Ending

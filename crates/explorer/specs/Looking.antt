@@ -1,14 +1,19 @@
 -- What is found out about one node. It is this project's own.
 use Rattle.std.specs.Prelude.{◌≡◌, List, map, ℤ, ◌≤ℤ◌, ◌<ℤ◌, All, ⊤}
+use Rattle.std.specs.declared.option.Option.{Option}
 use Rattle.fzn_model.specs.Parts.{Parts}
 use Rattle.fzn_model.specs.Solutions.{Solves, cost}
 use Rattle.fzn_model.specs.Boxes.{low_value}
 use Rattle.incumbent_board.specs.Passes.{Held, SamePass, IsAlone}
 use Rattle.search_core.specs.declared.decision.Decision.{Decision}
 use Rattle.search_core.specs.Paths.{Meets, Settled}
+use Rattle.run_log.specs.Journals.{Noted, Notes}
 use Rattle.explorer.specs.Offers.{Kept, IsOffer, least_with, known_after, kept_after}
 use Rattle.explorer.specs.Nodes.{IsNode}
 use Rattle.explorer.specs.Frames.{HasBoth}
+use Rattle.explorer.specs.Trees.{leaf, solution_lines}
+use Rattle.explorer.specs.RightLogs.{IfFound, IsPropagated, least_after}
+use Rattle.explorer.specs.Recording.{known_in}
 use Rattle.explorer.specs.declared.bench.Bench.{Bench}
 use Rattle.explorer.specs.declared.meter.Meter.{Meter}
 use Rattle.explorer.specs.declared.node.Node.{Node}
@@ -47,6 +52,15 @@ pub record FindsNone (x y : Held) (a b : Meter) (f g : Kept) : Type 0 where
   pub meter : b ≡ a
   pub found : g ≡ f
 
+-- at most one solution on the path was found, which was offered and noted
+pub record NotesFound (m : Parts) (p : List Decision) (x y : Held) (a b : Meter) (j k : Noted) : Type 0 where
+  pub solution : Option (ℤ × List ℤ)
+  pub found : IfFound m p solution
+  pub notes : Notes j k (solution_lines solution)
+  pub least : y.least ≡ least_after (leaf solution y.seen) x.least
+  pub seen : y.seen ≡ least_after (leaf solution y.seen) x.seen
+  pub known : b.least ≡ known_in a.least (solution_lines solution)
+
 -- only the domains changed, and the room for values
 pub record StaysAt (t k : Bench) : Type 0 where
   pub here : k.here ≡ t.here
@@ -66,6 +80,11 @@ IsOnly m p φ b = (θ : List ℤ) → Solves m θ → Meets p θ → cost m θ <
 unfoldable pub IsLooked : Parts → Bench → ℤ → Node → Type 0
 IsLooked m t b (node.Closed z) = Settled m t.here b × (z ≡ b)
 IsLooked m t b (node.Open d) = IsNode m t.here t.store.box b × HasBoth t.store.box d
+
+-- a node that is to be cut has the box that propagation left
+unfoldable pub IsReached : Parts → Bench → ℤ → Node → Type 0
+IsReached m t b (node.Closed z) = ⊤
+IsReached m t b (node.Open d) = IsPropagated m t.here b t.store.box
 
 unfoldable pub IsOpenNode : Node → Type 0
 IsOpenNode (node.Closed z) = ⊥

@@ -34,6 +34,11 @@ standing_with (rest offset r) (Some s) standing = put_in standing s.place (recor
 standing_with (rest offset r) None standing = standing
 standing_with (wide words) stored standing = standing
 
+-- only a node whose residual problem is known may be stored
+abbrev pub MayStore : Asked → Option StoredAt → Type 0
+MayStore (rest offset r) stored = ⊤
+MayStore (wide words) stored = stored ≡ None
+
 -- the entry that stands at each place behind the lines of a tree
 unfoldable pub standing_after : Tree → List (Option Bounded) → List (Option Bounded)
 standing_after (leaf solution bound) standing = standing
@@ -83,7 +88,7 @@ IsTrue m limit p least (leaf solution bound) = IfFound m p solution × (bound �
 IsTrue m limit p least (hit seen offset r bound place) = (seen ≡ least) × IsAsked m limit p seen (rest offset r) × (bound ≡ seen) × Settled m p bound
 IsTrue m limit p least (join o first second bound stored) =
     IsOpenedAt m limit p least o × IsTrue m limit (first_side p o) least first × IsTrue m limit (second_side p o) (least_after first least) second ×
-    (bound ≡ int_min (bound_of first) (bound_of second)) × Settled m p bound
+    (bound ≡ int_min (bound_of first) (bound_of second)) × Settled m p bound × MayStore o.head.asked stored
 
 -- ---- the cache
 -- no entry that stands serves the residual problem at what was seen less its offset, but where the entry was gone
@@ -97,7 +102,7 @@ abbrev pub Stores : List (Option Bounded) → ℕ → ℤ → Asked → Option S
 Stores standing ways bound (rest offset r) (Some s) =
     (s.bound ≡ (bound -ℤ offset)) × NoneServes standing ways r s.bound × IsPlaceFor standing ways (record { rest = r; bound = s.bound }) s.place
 Stores standing ways bound (rest offset r) None = (ways ≡ 0) ⊎ ((place : ℕ) × ServesAt standing ways r (bound -ℤ offset) place)
-Stores standing ways bound (wide words) stored = stored ≡ None
+Stores standing ways bound (wide words) stored = ⊤
 
 -- Each node keeps to the cache: it is expanded only where no entry serves, settled by an entry that does, and stored behind its sides.
 unfoldable pub IsKept : ℕ → List (Option Bounded) → Tree → Type 0
@@ -117,6 +122,21 @@ pub record IsRightLog (m : Parts) (limit ways : ℕ) (p : List Decision) (least 
   pub kept : IsKept ways standing tree
 
 -- ---- a search that isn't done
+-- the best cost so far behind its lines, and the entry that stands at each place
+unfoldable pub least_so_far : Begun → ℤ → ℤ
+least_so_far nothing least = least
+least_so_far (solved z values) least = int_min least z
+least_so_far (whole t) least = least_after t least
+least_so_far (in_first o b) least = least_so_far b least
+least_so_far (in_second o first b) least = least_so_far b (least_after first least)
+
+unfoldable pub standing_so_far : Begun → List (Option Bounded) → List (Option Bounded)
+standing_so_far nothing standing = standing
+standing_so_far (solved z values) standing = standing
+standing_so_far (whole t) standing = standing_after t standing
+standing_so_far (in_first o b) standing = standing_so_far b standing
+standing_so_far (in_second o first b) standing = standing_so_far b (standing_after first standing)
+
 unfoldable pub IsTrueSoFar : Parts → ℕ → List Decision → ℤ → Begun → Type 0
 IsTrueSoFar m limit p least nothing = ⊤
 IsTrueSoFar m limit p least (solved z values) = IsFound m p z values

@@ -14,7 +14,7 @@
 //! a measure (`turns_left` in `specs/Turns.antt`).
 //!
 //! What a log of a search is, as a tree of its nodes (`specs/Trees.antt`), and when it is right (`specs/RightLogs.antt`) is defined
-//! here; the search writes none yet.
+//! here. What a search notes in its journal is such a log, or the beginning of one (`Logged` in `specs/Logged.antt`).
 //!
 //! What it costs: one propagation, one projection and eight readings a node. It doesn't recurse; memory grows with the depth
 //! alone, by what a level of the store keeps and a residual problem.
@@ -37,6 +37,7 @@ mod task;
 mod down;
 mod edge;
 mod node;
+mod noting;
 mod telling;
 mod up;
 mod walking;

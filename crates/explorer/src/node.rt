@@ -1,21 +1,24 @@
 // One node: the bound, the propagation, and a leaf's values.
-ghost use Rattle.std.specs.Prelude.{◌≡◌, ◌≤◌, ◌^◌, ◌≤ℤ◌, List, IfOk, IfErr, OnOk, length, true, All, ℤ};
+ghost use Rattle.std.specs.Prelude.{◌≡◌, ◌≤◌, ◌^◌, ◌≤ℤ◌, List, IfOk, IfErr, OnOk, length, true, false, All, ℤ};
 ghost use Rattle.fzn_model.specs.Limits.{IsValue, IsNear};
 ghost use Rattle.fzn_model.specs.Solutions.{Solves, cost};
 ghost use Rattle.prop_engine.specs.Plans.{plan_of, IsFor, IsReady};
 ghost use Rattle.prop_engine.specs.Fixing.{Fixes, FixedMeans};
-ghost use Rattle.search_core.specs.Paths.{Settled};
+ghost use Rattle.search_core.specs.Paths.{Meets, Settled};
 ghost use Rattle.explorer.specs.Benches.{IsAble};
 ghost use Rattle.explorer.specs.Nodes.{IsNode};
 ghost use Rattle.explorer.specs.Offers.{IsOffer};
 ghost use Rattle.explorer.specs.Works.{IsCause};
 ghost use Rattle.explorer.specs.Telling.{SameTasks};
-ghost use Rattle.explorer.specs.Looking.{Listened, Finds, FindsNone, StaysAt, AreLeast, IsOnly, IsLooked, IsOpenNode};
+ghost use Rattle.explorer.specs.Looking.{Listened, Finds, FindsNone, NotesFound, StaysAt, AreLeast, IsOnly, IsLooked, IsReached, IsOpenNode};
+ghost use Rattle.explorer.specs.RightLogs.{IsPropagated};
+ghost use Rattle.explorer.specs.Recording.{IsFresh};
 
 use crate::bench::Bench;
 use crate::found::Found;
 use crate::frame::Stop;
 use crate::meter::Meter;
+use crate::noting::note_solution;
 use crate::task::Task;
 use crate::telling::{tell_offer, tell_seen};
 use brancher::choose;
@@ -23,6 +26,7 @@ use dom_store::{Store, recall_domains};
 use fzn_model::{BoxView, cost_of, satisfies};
 use incumbent_board::BoardPass;
 use prop_engine::{Engine, Fixed};
+use run_log::Journal;
 use search_core::{Decision, Local, Path};
 use std::alloc::AllocError;
 
@@ -42,6 +46,7 @@ pub(crate) fn listen(task: &Task, pass: &mut BoardPass, local: &mut Local) -> Re
     ensures pass { Listened pass.old pass.new }
     ensures bound { IfOk result (λ seen. pass.new.seen ≡ seen) }
     ensures top { IfOk result (λ seen. seen ≤ℤ task.now.board.now.top) }
+    ensures fresh { IsFresh pass.new }
     ensures local { SameTasks local.old local.new }
     ensures cause { IfErr result (λ stop. IsCause stop pass.old pass.new) }
 {
@@ -82,6 +87,7 @@ fn is_empty(
     ensures saved { store.new.saved ≡ store.old.saved }
     ensures node { IsNode task.now.model.now here.now store.new.box seen.now }
     ensures settled { IfOk result (λ empty. empty ≡ true → Settled task.now.model.now here.now seen.now) }
+    ensures reached { IfOk result (λ empty. empty ≡ false → IsPropagated task.now.model.now here.now seen.now store.new.box) }
     ensures ready { IsReady store.new engine.new }
 {
     let model = task.model;
@@ -109,7 +115,7 @@ fn read_values(store: &Store, values: &mut Vec<i64>) -> Result<(), AllocError>
 }
 
 /// A solution is offered. Answers the bound at which its node is settled.
-fn close_solution(
+fn close_solution<J: Journal>(
     task: &Task,
     here: &Path,
     values: &[i64],
@@ -118,15 +124,19 @@ fn close_solution(
     local: &mut Local,
     found: &mut Found,
     meter: &mut Meter,
+    journal: &mut J,
 ) -> Result<i64, Stop>
     requires own { pass.old.board ≡ task.now.board.now }
     requires room { local.old.expands ≤ 2 ^ 120 }
     requires seen { seen.now ≡ pass.old.seen }
+    requires meets { Meets here.now values.now }
     requires only { IsOnly task.now.model.now here.now values.now seen.now }
     requires solves { Solves task.now.model.now values.now }
     requires count { length values.now ≡ length task.now.model.now.doms }
     requires found { found.old.count ≡ length task.now.model.now.doms }
     ensures finds { Finds task.now.model.now pass.old pass.new meter.old meter.new found.old found.new }
+    ensures notes { NotesFound task.now.model.now here.now pass.old pass.new meter.old meter.new (J.noted journal.old) (J.noted journal.new) }
+    ensures places { J.places journal.new ≡ J.places journal.old }
     ensures bound { IfOk result (λ bound. bound ≡ pass.new.seen) }
     ensures settled { OnOk result (Settled task.now.model.now here.now pass.new.seen) }
     ensures local { SameTasks local.old local.new }
@@ -135,6 +145,7 @@ fn close_solution(
     let model = task.model;
     let _kept = &model.cons;
     let cost = cost_of(task.model, values);
+    note_solution(journal, &cost, values);
     task.board.offer(pass, cost);
     meter.offer(cost);
     found.keep(values, &cost);
@@ -145,7 +156,7 @@ fn close_solution(
 }
 
 /// A node with all variables fixed. Answers the bound at which it is settled.
-fn close_fixed(
+fn close_fixed<J: Journal>(
     task: &Task,
     here: &Path,
     values: &[i64],
@@ -154,28 +165,32 @@ fn close_fixed(
     local: &mut Local,
     found: &mut Found,
     meter: &mut Meter,
+    journal: &mut J,
 ) -> Result<i64, Stop>
     requires own { pass.old.board ≡ task.now.board.now }
     requires room { local.old.expands ≤ 2 ^ 120 }
     requires seen { seen.now ≡ pass.old.seen }
+    requires meets { Meets here.now values.now }
     requires only { IsOnly task.now.model.now here.now values.now seen.now }
     requires count { length values.now ≡ length task.now.model.now.doms }
     requires found { found.old.count ≡ length task.now.model.now.doms }
     ensures finds { Finds task.now.model.now pass.old pass.new meter.old meter.new found.old found.new }
+    ensures notes { NotesFound task.now.model.now here.now pass.old pass.new meter.old meter.new (J.noted journal.old) (J.noted journal.new) }
+    ensures places { J.places journal.new ≡ J.places journal.old }
     ensures bound { IfOk result (λ bound. bound ≡ pass.new.seen) }
     ensures settled { OnOk result (Settled task.now.model.now here.now pass.new.seen) }
     ensures local { SameTasks local.old local.new }
     ensures memory { IfErr result (λ stop. stop ≡ Stop.NoMemory) }
 {
     if satisfies(task.model, values) {
-        close_solution(task, here, values, seen, pass, local, found, meter)
+        close_solution(task, here, values, seen, pass, local, found, meter, journal)
     } else {
         Ok(*seen)
     }
 }
 
 /// Looks at a node before the cache is asked.
-pub(crate) fn look(
+pub(crate) fn look<J: Journal>(
     task: &Task,
     bench: &mut Bench,
     seen: &i64,
@@ -183,6 +198,7 @@ pub(crate) fn look(
     local: &mut Local,
     found: &mut Found,
     meter: &mut Meter,
+    journal: &mut J,
 ) -> Result<Node, Stop>
     requires own { pass.old.board ≡ task.now.board.now }
     requires room { local.old.expands ≤ 2 ^ 120 }
@@ -193,6 +209,10 @@ pub(crate) fn look(
     requires found { found.old.count ≡ length task.now.model.now.doms }
     ensures stays { StaysAt bench.old bench.new }
     ensures finds { Finds task.now.model.now pass.old pass.new meter.old meter.new found.old found.new }
+    ensures notes { NotesFound task.now.model.now bench.old.here pass.old pass.new meter.old meter.new (J.noted journal.old) (J.noted journal.new) }
+    ensures still { IfOk result (λ node. IsOpenNode node → J.noted journal.new ≡ J.noted journal.old) }
+    ensures places { J.places journal.new ≡ J.places journal.old }
+    ensures reached { IfOk result (IsReached task.now.model.now bench.new seen.now) }
     ensures node { IfOk result (IsLooked task.now.model.now bench.new pass.new.seen) }
     ensures able { IsAble bench.new }
     ensures none { IfOk result (λ node. IsOpenNode node → FindsNone pass.old pass.new meter.old meter.new found.old found.new) }
@@ -223,6 +243,7 @@ pub(crate) fn look(
         local,
         found,
         meter,
+        journal,
     ) {
         Ok(bound) => Ok(Node::Closed(bound)),
         Err(stop) => Err(stop),

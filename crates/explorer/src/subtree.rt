@@ -10,7 +10,8 @@ ghost use Rattle.explorer.specs.Walking.{NoneMeets};
 ghost use Rattle.explorer.specs.Works.{Works};
 ghost use Rattle.explorer.specs.Explored.{IfSettled, Closes, closings, IsCauseOf, CountedBy};
 ghost use Rattle.explorer.specs.Going.{aim, state};
-ghost use Rattle.explorer.specs.Ending.{IsStart, HasRun, HasClosed, HasStopped, HasLevels, answer_of};
+ghost use Rattle.explorer.specs.Logged.{Logged};
+ghost use Rattle.explorer.specs.Ending.{IsStart, HasRun, HasClosed, HasStopped, HasLogged, HasLevels, answer_of};
 
 use crate::bench::Bench;
 use crate::edge::{enter, follow, leave};
@@ -18,6 +19,7 @@ use crate::found::Found;
 use crate::frame::Stop;
 use crate::meter::Meter;
 use crate::node::listen;
+use crate::noting::{depth_of, note_leaf};
 use crate::search::search;
 use crate::task::Task;
 use crate::telling::tell_leaf;
@@ -25,6 +27,7 @@ use entry_slab::Shelf;
 use evictor::{Cache, Reader};
 use fzn_model::Model;
 use incumbent_board::{Board, BoardPass, Why};
+use run_log::Journal;
 use search_core::{Local, Path};
 use std::alloc::Global;
 
@@ -43,7 +46,7 @@ pub enum Explored {
 
 /// A path that no assignment within the domains meets.
 #[tactic(auto, using(crate::proofs::Exploring::empty_runs, crate::proofs::Exploring::empty_halts, crate::proofs::Exploring::empty_closes, crate::proofs::Exploring::empty_stops, crate::proofs::Exploring::still_held, crate::proofs::Exploring::room_enough))]
-fn close_empty<H: Shelf>(
+fn close_empty<H: Shelf, J: Journal>(
     task: &Task,
     bench: &Bench,
     reader: &Reader<H>,
@@ -51,6 +54,7 @@ fn close_empty<H: Shelf>(
     local: &mut Local,
     found: &Found,
     meter: &Meter,
+    journal: &mut J,
 ) -> Result<i64, Stop>
     requires none { NoneMeets task.now.model.now task.now.path.now }
     requires board { pass.old.board ≡ task.now.board.now }
@@ -59,14 +63,23 @@ fn close_empty<H: Shelf>(
     ensures ran { HasRun (aim task.now) (state bench.now pass.old local.old reader.now meter.now found.now) (state bench.now pass.new local.new reader.now meter.now found.now) }
     ensures closed { IfOk result (λ b. HasClosed (aim task.now) b (state bench.now pass.old local.old reader.now meter.now found.now) (state bench.now pass.new local.new reader.now meter.now found.now)) }
     ensures stopped { IfErr result (λ why. HasStopped why (state bench.now pass.old local.old reader.now meter.now found.now) (state bench.now pass.new local.new reader.now meter.now found.now)) }
+    ensures logged { HasLogged (aim task.now) result (state bench.now pass.old local.old reader.now meter.now found.now) (J.noted journal.old) (state bench.now pass.new local.new reader.now meter.now found.now) (J.noted journal.new) }
+    ensures places { J.places journal.new ≡ J.places journal.old }
 {
     let _ = bench;
     let _ = reader;
     let _ = found;
     let _ = meter;
+    let depth = match depth_of(task.path) {
+        Ok(depth) => depth,
+        Err(stop) => return Err(stop),
+    };
     match listen(task, pass, local) {
         Ok(seen) => match tell_leaf(local, task.path) {
-            Ok(()) => Ok(seen),
+            Ok(()) => {
+                note_leaf(journal, &depth, &seen);
+                Ok(seen)
+            }
             Err(stop) => Err(stop),
         },
         Err(stop) => Err(stop),
@@ -75,7 +88,7 @@ fn close_empty<H: Shelf>(
 
 /// Searches below the path, from the model's domains.
 #[tactic(auto, using(crate::proofs::Exploring::start_can, crate::proofs::Exploring::start_box, crate::proofs::Exploring::done_runs, crate::proofs::Exploring::done_closes, crate::proofs::Exploring::done_levels, crate::proofs::Exploring::ends_runs, crate::proofs::Exploring::ends_stops, crate::proofs::Exploring::ends_levels, crate::proofs::Exploring::moved_runs, crate::proofs::Exploring::moved_closes, crate::proofs::Exploring::moved_stops, prop_engine::proofs::Ready::ready_same))]
-fn search_below<H: Shelf>(
+fn search_below<H: Shelf, J: Journal>(
     task: &Task,
     bench: &mut Bench,
     reader: &mut Reader<H>,
@@ -83,6 +96,7 @@ fn search_below<H: Shelf>(
     local: &mut Local,
     found: &mut Found,
     meter: &mut Meter,
+    journal: &mut J,
 ) -> Result<i64, Stop>
     requires start { IsStart task.now.model.now task.now.path.now bench.old }
     requires able { IsAble bench.old }
@@ -97,6 +111,8 @@ fn search_below<H: Shelf>(
     ensures ran { HasRun (aim task.now) (state bench.old pass.old local.old reader.old meter.old found.old) (state bench.new pass.new local.new reader.new meter.new found.new) }
     ensures closed { IfOk result (λ b. HasClosed (aim task.now) b (state bench.old pass.old local.old reader.old meter.old found.old) (state bench.new pass.new local.new reader.new meter.new found.new)) }
     ensures stopped { IfErr result (λ why. HasStopped why (state bench.old pass.old local.old reader.old meter.old found.old) (state bench.new pass.new local.new reader.new meter.new found.new)) }
+    ensures logged { HasLogged (aim task.now) result (state bench.old pass.old local.old reader.old meter.old found.old) (J.noted journal.old) (state bench.new pass.new local.new reader.new meter.new found.new) (J.noted journal.new) }
+    ensures places { J.places journal.new ≡ J.places journal.old }
     ensures levels { (area : List (List ℤ)) → HasLevels bench.old area → HasLevels bench.new area }
     ensures able { IsAble bench.new }
 {
@@ -104,9 +120,9 @@ fn search_below<H: Shelf>(
     let _kept = &model.cons;
     let _ = pass.out();
     if follow(task, &mut bench.store, task.path.decisions()) {
-        return close_empty(task, bench, reader, pass, local, found, meter);
+        return close_empty(task, bench, reader, pass, local, found, meter, journal);
     }
-    match search(task, bench, reader, pass, local, found, meter) {
+    match search(task, bench, reader, pass, local, found, meter, journal) {
         Ok(closed) => Ok(closed.bound),
         Err(stop) => Err(stop),
     }
@@ -114,7 +130,7 @@ fn search_below<H: Shelf>(
 
 /// Searches the subtree of the path, and leaves the bench as it was.
 #[tactic(auto, using(crate::proofs::Exploring::none_runs, crate::proofs::Exploring::none_stops, crate::proofs::Exploring::whole_runs, crate::proofs::Exploring::moved_closes, crate::proofs::Exploring::moved_stops, crate::proofs::Exploring::can_leave, crate::proofs::Exploring::left_bench, crate::proofs::Exploring::bench_full))]
-fn try_explore<H: Shelf>(
+fn try_explore<H: Shelf, J: Journal>(
     task: &Task,
     bench: &mut Bench,
     reader: &mut Reader<H>,
@@ -122,6 +138,7 @@ fn try_explore<H: Shelf>(
     local: &mut Local,
     found: &mut Found,
     meter: &mut Meter,
+    journal: &mut J,
 ) -> Result<i64, Stop>
     requires bench { IsBench task.now.model.now bench.old }
     requires path { All (λ d. (d.var < length task.now.model.now.doms) × IsValue d.at) task.now.path.now }
@@ -135,12 +152,14 @@ fn try_explore<H: Shelf>(
     ensures ran { HasRun (aim task.now) (state bench.old pass.old local.old reader.old meter.old found.old) (state bench.new pass.new local.new reader.new meter.new found.new) }
     ensures closed { IfOk result (λ b. HasClosed (aim task.now) b (state bench.old pass.old local.old reader.old meter.old found.old) (state bench.new pass.new local.new reader.new meter.new found.new)) }
     ensures stopped { IfErr result (λ why. HasStopped why (state bench.old pass.old local.old reader.old meter.old found.old) (state bench.new pass.new local.new reader.new meter.new found.new)) }
+    ensures logged { HasLogged (aim task.now) result (state bench.old pass.old local.old reader.old meter.old found.old) (J.noted journal.old) (state bench.new pass.new local.new reader.new meter.new found.new) (J.noted journal.new) }
+    ensures places { J.places journal.new ≡ J.places journal.old }
     ensures bench { IsBench task.now.model.now bench.new }
 {
     if let Err(_) = enter(task, bench) {
         return Err(Stop::NoMemory);
     }
-    let ended = search_below(task, bench, reader, pass, local, found, meter);
+    let ended = search_below(task, bench, reader, pass, local, found, meter, journal);
     leave(bench, task.alloc);
     ended
 }
@@ -180,12 +199,12 @@ fn count_closed(meter: &mut Meter, explored: &Explored)
 /// of variables.
 ///
 /// `Settled(b)`: no solution of the path costs less than b, which the pass last saw. `Dry`: the board gave no credit. `Told`: it
-/// told that reason to stop. In every case `works` says what was spent and found, the credits are at most one less than
+/// told that reason to stop. In every case `works` says what was spent and found, `log` what was noted (`specs/Logged.antt`), the credits are at most one less than
 /// the path's assignments, none where it has none, and the bench is as it was.
 ///
 /// It takes memory for each open expansion and its level, for residual problems, and for entries that the shelf keeps.
 #[tactic(auto, using(crate::proofs::Exploring::closes_if, crate::proofs::Exploring::works_all, crate::proofs::Exploring::weighs, crate::proofs::Exploring::counts_by, crate::proofs::Exploring::causes))]
-pub fn explore<H: Shelf>(
+pub fn explore<H: Shelf, J: Journal>(
     alloc: Global,
     model: &Model,
     bench: &mut Bench,
@@ -196,6 +215,7 @@ pub fn explore<H: Shelf>(
     board: &Board,
     pass: &mut BoardPass,
     local: &mut Local,
+    journal: &mut J,
     found: &mut Found,
     meter: &mut Meter,
 ) -> Explored
@@ -214,6 +234,8 @@ pub fn explore<H: Shelf>(
     ensures weight { pass.new.credits ≤ pass.old.credits + weight model.now path.now }
     ensures expands { CountedBy result local.old local.new pass.old pass.new }
     ensures cause { IsCauseOf result pass.old pass.new }
+    ensures log { Logged model.now path.now limit result pass.old pass.new reader.old reader.new meter.old meter.new (J.noted journal.old) (J.noted journal.new) }
+    ensures places { J.places journal.new ≡ J.places journal.old }
     ensures bench { IsBench model.now bench.new }
 {
     let task = Task {
@@ -224,7 +246,7 @@ pub fn explore<H: Shelf>(
         cache,
         board,
     };
-    let explored = answer(try_explore(&task, bench, reader, pass, local, found, meter));
+    let explored = answer(try_explore(&task, bench, reader, pass, local, found, meter, journal));
     count_closed(meter, &explored);
     explored
 }

@@ -13,6 +13,7 @@ use evictor::{Cache, Reader};
 use explorer::{Bench, Found, Meter, explore};
 use fzn_model::{Model, top_of};
 use incumbent_board::{Answer, Board, Options, Outcome};
+use run_log::NoJournal;
 use search_core::{Local, Move, Path, StepFault};
 use std::alloc::{AllocError, Global};
 use std::thread::Threads;
@@ -72,6 +73,7 @@ fn search(
         &board,
         &mut pass,
         &mut local,
+        &mut NoJournal,
         &mut found,
         meter,
     );

@@ -8,6 +8,7 @@ use evictor::{Cache, Reader};
 use explorer::{Bench, Explored, Found, Meter, explore};
 use fzn_model::{Model, top_of};
 use incumbent_board::Board;
+use run_log::NoJournal;
 use search_core::{Local, Move, Path};
 use std::alloc::Global;
 use std::test::Fail;
@@ -54,6 +55,7 @@ fn explored(alloc: Global, model: &Model, budget: u64) -> Result<(Explored, Foun
         &board,
         &mut pass,
         &mut local,
+        &mut NoJournal,
         &mut found,
         &mut meter,
     );
