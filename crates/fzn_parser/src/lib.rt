@@ -9,9 +9,9 @@
 //! states: the grammar's rules, each with what it makes; ten examples of it are proved ([`examples_state_models`]).
 //! Of a refusal it promises these laws (`specs/Laws.antt`), in the words of the grammar without values
 //! (`specs/Grammar.antt`): it has the line and the span of a token of the file, of its end, or of the byte that begins no
-//! token, and a code that this token may show, by a table; it is `TooLong` exactly above 67,108,864 bytes; where it speaks
-//! of the form, the tokens before it begin a file that the grammar spells; and what the grammar spells is not refused for
-//! its form. To the letter, it gives exactly what `reads` of `fzn_reader` gives for the bytes.
+//! token, and a code that this token may show, by a table; the tokens before it begin a file that the grammar spells; it
+//! is `TooLong` exactly above 67,108,864 bytes; and what the grammar spells is not refused for its form. To the letter, it
+//! gives exactly what `reads` of `fzn_reader` gives for the bytes.
 //!
 //! What it stands on: `fzn_reader` for reading, `fzn_lexer` for tokens, `fzn_builtin` for constraints by name, `fzn_model`.
 #![tactic(auto)]
@@ -37,9 +37,9 @@ use std::alloc::Global;
 /// than 67,108,864 bytes is `TooLong` at line 1, before all tokens. `NoMemory` comes where the model has no room.
 ///
 /// A model is answered exactly where the file states it (`specs/States.antt`), unless memory runs out. What the grammar of
-/// `specs/Grammar.antt` spells is not refused as `Syntax`, `Float` or `SetVar`, and where one of these comes, the tokens
-/// before it begin a file that the grammar spells. A refusal has the line and the span of a token of the file that may
-/// show its code, of its end, or of the byte that begins no token.
+/// `specs/Grammar.antt` spells is not refused as `Syntax`, `Float` or `SetVar`. A refusal has the line and the span of a
+/// token of the file that may show its code, of its end, or of the byte that begins no token, and the tokens before that
+/// begin a file that the grammar spells.
 #[tactic(auto, using(crate::proofs::MadeFile::states, crate::proofs::MadeFile::stated, crate::proofs::FileLaws::spelled, crate::proofs::FileLaws::fair, crate::proofs::FormedFile::formed))]
 pub fn parse(alloc: Global, bytes: &[u8]) -> Result<Model, ParseFault>
     ensures reads { Gives (λ m. m) result (reads bytes.now) }
