@@ -1,5 +1,4 @@
-use Rattle.std.proofs.Common.{refl, ap}
-use Rattle.search_core.specs.Locals.{LocalParts}
+use Rattle.std.proofs.Common.{refl}
 use Rattle.explorer.specs.Going.{aim, state}
 use Rattle.explorer.specs.declared.frame.Turn.TheVariants as turn
 use Rattle.explorer.proofs.Recording.{quiet_stops}

@@ -1,4 +1,4 @@
-use Rattle.std.proofs.Common.{◌≡◌, Bool, false, ◌∷◌, ap, refl, sym, ◌∙◌, ℤ, FitsSigned, w64, rules}
+use Rattle.std.proofs.Common.{◌≡◌, false, ◌∷◌, ap, refl, sym, ◌∙◌, ℤ, FitsSigned, w64, rules}
 use Rattle.std.specs.Prelude.{Result, Ok, Err, OnOk}
 use Rattle.std.specs.Result.{is_err}
 use Rattle.std.proofs.lemmas.Int.{to_z-of_z}
